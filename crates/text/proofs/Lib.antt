@@ -1,0 +1,4 @@
+pub mod Capped
+pub mod Cuts
+pub mod NumberLaws
+pub mod ResultLaws

@@ -1,0 +1,6 @@
+pub mod Faults
+pub mod LineWalk
+pub mod Numerals
+pub mod Pieces
+pub mod Results
+pub mod Walk
