@@ -18,7 +18,7 @@ fn hex_value(b: u8) -> u8 {
     }
 }
 
-pub fn unescaped(heap: Global, text: &str) -> Result<Vec<u8>, AllocError> {
+pub(crate) fn unescaped(heap: Global, text: &str) -> Result<Vec<u8>, AllocError> {
     let mut bytes = Vec::new(heap);
     let mut escape = Escape::None;
     for b in text.bytes() {

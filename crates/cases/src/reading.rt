@@ -32,7 +32,7 @@ fn writes_back(heap: Global, diagram: &Diagram, text: &[u8]) -> Result<bool, All
     Ok(written == Ok(len) && long == kept && refused == Err(fault) && short == untouched)
 }
 
-pub fn outcome(heap: Global, text: &[u8]) -> Result<String, AllocError> {
+pub(crate) fn outcome(heap: Global, text: &[u8]) -> Result<String, AllocError> {
     let mut diagram = Diagram::empty();
     if let Err(fault) = diagram.read(text) {
         let untouched = diagram.inputs() == 0

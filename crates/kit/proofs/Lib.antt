@@ -1,0 +1,3 @@
+mod Lookup
+pub mod AtMost
+pub mod Rising

@@ -1,0 +1,4 @@
+pub mod CommonRises
+pub mod NumberRises
+pub mod SwitchRises
+pub mod Halves

@@ -1,0 +1,4 @@
+pub mod Common
+pub mod Number
+pub mod Switch
+pub mod Benches
