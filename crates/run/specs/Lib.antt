@@ -1,0 +1,4 @@
+pub mod Closings
+pub mod InPlace
+pub mod Phases
+pub mod Runs
