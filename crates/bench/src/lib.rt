@@ -1,4 +1,6 @@
 // Lists of ticks: the text of a diagram and tick lines, played on a run, and what they print.
+#![tactic(auto)]
+
 pub mod cut;
 mod line;
 pub mod list;

@@ -15,8 +15,7 @@ use machine::answers::Given;
 use marks::value::Value;
 use profile::input::MOST_BYTES;
 use run::run::Run;
-use std::alloc::Allocator;
-use std::fmt;
+use std::alloc::{AllocError, Allocator};
 use text::fault::{Cause, Fault};
 use text::lines::Lines;
 
@@ -46,7 +45,7 @@ fn play_run<V: Value, K: Kit<V>, A: Allocator>(
     inputs: &mut [Option<Given<V>>],
     lines: &mut Lines,
     out: &mut String<A>,
-) -> fmt::Result
+) -> Result<(), AllocError>
     requires { (length wires.old ≡ (drawing diagram.now).wires) × ((length cells.old ≡ length (drawing diagram.now).blocks) × (length inputs.old ≡ (drawing diagram.now).inputs)) }
     ensures { OnOk result (string_bytes out.new ≡ string_bytes out.old ++ printed V.Value.numbered (run_of V.Value.valued (K.Kit.meaning kit.now) (drawing diagram.now) (lines.old.taken + 1) (lines_left lines.old))) }
 {
@@ -64,18 +63,12 @@ fn play_lines<V: Value + Clone, K: Kit<V>, A: Allocator + Copy>(
     diagram: &Diagram,
     lines: &mut Lines,
     out: &mut String<A>,
-) -> fmt::Result
+) -> Result<(), AllocError>
     ensures { OnOk result (string_bytes out.new ≡ string_bytes out.old ++ printed V.Value.numbered (run_of V.Value.valued (K.Kit.meaning kit.now) (drawing diagram.now) (lines.old.taken + 1) (lines_left lines.old))) }
 {
-    let Ok(mut wires) = vec![in heap; Signal::Unknown; diagram.wires() as usize] else {
-        return Err(fmt::Error);
-    };
-    let Ok(mut cells) = vec![in heap; Cell::Empty; diagram.blocks().len()] else {
-        return Err(fmt::Error);
-    };
-    let Ok(mut inputs) = vec![in heap; None; diagram.inputs() as usize] else {
-        return Err(fmt::Error);
-    };
+    let mut wires = vec![in heap; Signal::Unknown; diagram.wires() as usize]?;
+    let mut cells = vec![in heap; Cell::Empty; diagram.blocks().len()]?;
+    let mut inputs = vec![in heap; None; diagram.inputs() as usize]?;
     play_run(
         kit,
         diagram,
@@ -93,7 +86,7 @@ pub fn play_list<V: Value + Clone, K: Kit<V>, A: Allocator + Copy>(
     kit: &K,
     input: &[u8],
     out: &mut String<A>,
-) -> fmt::Result
+) -> Result<(), AllocError>
     ensures prints { OnOk result (string_bytes out.new ≡ string_bytes out.old ++ printed V.Value.numbered (listed V.Value.valued (K.Kit.meaning kit.now) input.now)) }
     ensures tells { TellsLeast V.Value.valued (K.Kit.meaning kit.now) input.now }
 {

@@ -11,8 +11,7 @@ use machine::answers::{Given, Intent};
 use marks::report::Report;
 use marks::value::Value;
 use run::run::Run;
-use std::alloc::Allocator;
-use std::fmt;
+use std::alloc::{AllocError, Allocator};
 use text::fault::Fault;
 use text::lines::Lines;
 use tick::played::Played;
@@ -41,7 +40,7 @@ pub(crate) fn play_ticks<V: Value, K: Kit<V>, A: Allocator>(
     lines: &mut Lines,
     inputs: &mut [Option<Given<V>>],
     out: &mut String<A>,
-) -> fmt::Result
+) -> Result<(), AllocError>
     requires { length inputs.old ≡ (drawing_of_run run.old).inputs }
     ensures { OnOk result (string_bytes out.new ≡ string_bytes out.old ++ printed V.Value.numbered (ticks_of V.Value.valued (K.Kit.meaning kit.now) (drawing_of_run run.old) (state_of run.old) (lines.old.taken + 1) (lines_left lines.old))) }
 {

@@ -4,9 +4,8 @@ use bench::list::play_list;
 use kit::question::Kit;
 use kits::bench_kits::{number_bench_kit, switch_bench_kit};
 use std::alloc::{AllocError, Global};
-use std::fmt;
 
-fn played(heap: Global, bench: &str, list: &[u8], out: &mut String) -> fmt::Result {
+fn played(heap: Global, bench: &str, list: &[u8], out: &mut String) -> Result<(), AllocError> {
     match bench {
         "number" => play_list::<i32, _, _>(heap, &number_bench_kit(), list, out),
         "switch" => play_list::<bool, _, _>(heap, &switch_bench_kit(), list, out),
@@ -19,9 +18,7 @@ pub(crate) fn listed(heap: Global, on: &str) -> Result<String, AllocError> {
     let bench = parts.next().unwrap_or("");
     let list = unescaped(heap, parts.next().unwrap_or(""))?;
     let mut out = String::new(heap);
-    if let Err(_) = played(heap, bench, list.as_slice(), &mut out) {
-        return String::from_str(heap, "no memory");
-    }
+    played(heap, bench, list.as_slice(), &mut out)?;
     let mut shown = String::new(heap);
     for line in out.as_str().lines() {
         shown.push_str(line)?;

@@ -1,6 +1,8 @@
 // Runs the table of cases on standard input against the libraries, and prints each case that went otherwise than
 // its line says. A line has what is tried, a name, what is expected, and what it is tried on, parted by tabs: `read` a
 // diagram's text, `ask` a kit a question, `play` calls on a run, `offer` runs each other's tokens, or play a `list` on a bench.
+#![tactic(auto)]
+
 mod asking;
 mod escaped;
 mod lending;

@@ -1,4 +1,6 @@
 // Diagrams: drafts whose wiring is checked, read from a text and written back as that text.
+#![tactic(auto)]
+
 pub mod diagram;
 pub mod line;
 pub mod wiring;

@@ -1,4 +1,6 @@
 // The kits of this shop: common, number and switch, and the kits of the two benches.
+#![tactic(auto)]
+
 pub mod bench_kits;
 pub mod common;
 pub mod number;

@@ -23,10 +23,10 @@ fn value<V: Value>(number: i32) -> Result<Option<Given<V>>, Cause>
 pub fn input<V: Value>(field: &[u8]) -> Result<Option<Given<V>>, Cause>
     ensures { result ≡ input_in V.Value.valued field.now }
 {
-    if field == b"?" {
+    if field == b"?".as_slice() {
         return Ok(None);
     }
-    if field == b"." {
+    if field == b".".as_slice() {
         return Ok(Some(Given::Absent));
     }
     let number = integer(field)?;

@@ -1,4 +1,6 @@
 // Opens the profile on standard input, and says what was read or why it was refused.
+#![tactic(auto)]
+
 use profile::input::{MOST_BYTES, read_into};
 use profile::open::open;
 use std::io;

@@ -1,4 +1,6 @@
 // A kit of another shop: two kinds over signed 32-bit numbers, and the kit that it sells.
+#![tactic(auto)]
+
 ghost use Rattle.std.specs.Prelude.{◌≡◌, [], ◌∷◌};
 ghost use Rattle.shop_kit.specs.Shop.{shop, sold, larger_fires, interlock_fires, shop_fires};
 ghost use Rattle.kit.specs.Tables.{among, unknown};

@@ -1,4 +1,6 @@
 // Plays the list on standard input with the kit of the switch bench.
+#![tactic(auto)]
+
 use bench::list::play_list;
 use kits::bench_kits::switch_bench_kit;
 use profile::input::{MOST_BYTES, read_into};

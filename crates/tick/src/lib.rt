@@ -1,3 +1,5 @@
 // One tick through the run's own calls, from begin to close.
+#![tactic(auto)]
+
 pub mod played;
 pub mod tick;

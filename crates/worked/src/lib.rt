@@ -1,4 +1,6 @@
 // Worked cases of the definitions: what the rules' page says in numbers, proved of the kits and of the machine.
+#![tactic(auto)]
+
 ghost use Rattle.worked.specs.EightCases.{EightCases};
 
 // The eight cases that tell the rules from their common mistakes.

@@ -7,7 +7,7 @@ use Rattle.text.proofs.Cuts.{some_piece}
 use Rattle.bench.specs.Lists.{cut_at, before_ticks}
 use Rattle.bench.proofs.Cutting.{at_ticks, last_line, at_end, one_line, line_length}
 use Rattle.bench.proofs.cut.before_ticks.Goals as goal
-use Rattle.bench.proofs.cut.before_ticks.Goals.{then-loop-lines-test+else-not-next-is, else-loop-lines-test}
+use Rattle.bench.proofs.cut.before_ticks.Goals.{then-loop-lines-test+else-not-next_is, else-loop-lines-test}
 
 pub loop-lines-init : goal.loop-lines-init
 loop-lines-init c =
@@ -19,36 +19,36 @@ pub returns-in-Err : goal.returns-in-Err
 returns-in-Err c =
     let l = c.loop-lines.lines in
     let only = c.in-Err.ensures.0 in
-    let none : first_is (codes "tick") l.rest.now ≡ false = ap (λ ps. first_is (codes "tick") (field ps 0)) (sym only) ∙ sym c.next-is.ensures ∙ c.if-not-next-is.true in
+    let none : first_is (codes "tick") l.rest.now ≡ false = ap (λ ps. first_is (codes "tick") (field ps 0)) (sym only) ∙ sym c.next_is.ensures ∙ c.if-not-next_is.true in
     let left : before_ticks (lines_left l) ≡ length l.rest.now = ap before_ticks only ∙ last_line l.rest.now none in
     record { value = sym (c.loop-lines.invariant.0 ∙ omega (arith, left, c.loop-lines.invariant.1)); within = omega arith }
 
 pub loop-lines-smaller : goal.loop-lines-smaller
 loop-lines-smaller c =
     let l = c.loop-lines.lines in
-    let m = c.next-line.new.self in
-    omega (arith, line_length l.rest.now c.in-default.field-0.now m.rest.now c.in-default.ensures.0)
+    let m = c.next_line.new.self in
+    omega (arith, line_length l.rest.now c.in_default.field-0.now m.rest.now c.in_default.ensures.0)
 
 pub loop-lines-preserved : goal.loop-lines-preserved
 loop-lines-preserved c =
     let l = c.loop-lines.lines in
-    let m = c.next-line.new.self in
-    let line = c.in-default.field-0.now in
-    let is = c.in-default.ensures.0 in
-    let none : first_is (codes "tick") line ≡ false = ap (λ ps. first_is (codes "tick") (field ps 0)) (sym is) ∙ sym c.next-is.ensures ∙ c.if-not-next-is.true in
+    let m = c.next_line.new.self in
+    let line = c.in_default.field-0.now in
+    let is = c.in_default.ensures.0 in
+    let none : first_is (codes "tick") line ≡ false = ap (λ ps. first_is (codes "tick") (field ps 0)) (sym is) ∙ sym c.next_is.ensures ∙ c.if-not-next_is.true in
     let long = line_length l.rest.now line m.rest.now is in
     let step : before_ticks (lines_left l) ≡ length line + 1 + before_ticks (lines_left m) = ap before_ticks is ∙ one_line line (lines_left m) (some_piece 10 m.rest.now) none in
     (c.loop-lines.invariant.0 ∙ omega (arith, step, long, c.loop-lines.invariant.1), omega (arith, long, c.loop-lines.invariant.1))
 
-pub overflow-sub-result : goal.overflow-sub-result
-overflow-sub-result c = omega (arith, c.left.ensures, c.loop-lines.invariant.1)
+pub overflow_sub-result : goal.overflow_sub-result
+overflow_sub-result c = omega (arith, c.left.ensures, c.loop-lines.invariant.1)
 
 pub returns : goal.returns
 returns c =
     let l = c.loop-lines.lines in
     let none_left : before_ticks (lines_left l) ≡ 0 =
     elim c.loop-lines-test.branch [
-      | then-loop-lines-test+else-not-next-is w ↦ at_ticks (lines_left l) (sym w.next-is.ensures ∙ w.if-not-next-is.false)
+      | then-loop-lines-test+else-not-next_is w ↦ at_ticks (lines_left l) (sym w.next_is.ensures ∙ w.if-not-next_is.false)
       | else-loop-lines-test w ↦ ap (λ xs. before_ticks (pieces 10 xs)) (nil_from_length l.rest.now (eqb-true (length l.rest.now) 0 (sym w.loop-lines-test.ensures))) ∙ at_end
     ] in
     record { value = sym (c.loop-lines.invariant.0 ∙ omega (arith, none_left, c.left.ensures)); within = omega arith }

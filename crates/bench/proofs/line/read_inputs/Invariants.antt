@@ -9,5 +9,5 @@ use Rattle.bench.proofs.line.read_inputs.Given as goal
 abbrev pub invariant-loop-slot : goal.invariant-loop-slot
 invariant-loop-slot g l =
     Walked l.initial.fields l.fields (l.slot-index + 1)
-    × (ahead (take l.slot-index l.inputs) (inputs_in g.row.V-Value.valued l.initial.fields.number (l.slot-index + 1) (length l.initial.inputs - l.slot-index) (fields_in l.initial.fields))
-    ≡ inputs_in g.row.V-Value.valued l.initial.fields.number 1 (length l.initial.inputs) (fields_in l.initial.fields))
+    × (ahead (take l.slot-index l.inputs) (inputs_in g.V.Value.valued l.initial.fields.number (l.slot-index + 1) (length l.initial.inputs - l.slot-index) (fields_in l.initial.fields))
+    ≡ inputs_in g.V.Value.valued l.initial.fields.number 1 (length l.initial.inputs) (fields_in l.initial.fields))

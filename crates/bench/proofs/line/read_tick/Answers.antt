@@ -12,67 +12,67 @@ use Rattle.bench.specs.TickLines.{tick_line, inputs_in, Into}
 use Rattle.bench.proofs.LineLaws.{other_word, other_count, right_count}
 use Rattle.bench.proofs.line.read_tick.Given.{Over}
 use Rattle.bench.proofs.line.read_tick.Goals as goal
-use Rattle.bench.proofs.line.read_tick.Goals.{After-next-word, After-count-count}
+use Rattle.bench.proofs.line.read_tick.Goals.{After-next_word, After-count-count}
 
 -- what was read, without what it was
 abbrev only : {V : Type 0} → Result (List (Option (Given V))) Fault → Result (Unit {0}) Fault
 only r = mapped (λ _. tt) r
 
 -- what the word's place says of it
-asked : (g : Over) (c : After-next-word g) → placed c.args.number 1 (word_in (codes "tick") (field (fields_of c.args.line.now) 0)) ≡ c.next-word.result
+asked : (g : Over) (c : After-next_word g) → placed c.args.number 1 (word_in (codes "tick") (field (fields_of c.args.line.now) 0)) ≡ c.next_word.result
 asked g c =
     let b = c.of-fields.ensures in
-    let moved = c.next-word.ensures.moved in
+    let moved = c.next_word.ensures.moved in
     let here : next_field c.of-fields.result ≡ field (fields_of c.args.line.now) 0 = λ i. field (fields_of (b.same_line i)) (b.none_taken i) in
-    let number : c.next-word.new.self.number ≡ c.args.number = moved.same_number ∙ b.same_number in
+    let number : c.next_word.new.self.number ≡ c.args.number = moved.same_number ∙ b.same_number in
     let some = some_piece 44 c.of-fields.result.line.now in
-    let taken : c.next-word.new.self.taken ≡ 1 = moved.one_taken ∙ omega (arith, b.none_taken, some) in
-    sym (c.next-word.ensures.value ∙ (λ i. placed (number i) (taken i) (word_in (codes "tick") (here i))))
+    let taken : c.next_word.new.self.taken ≡ 1 = moved.one_taken ∙ omega (arith, b.none_taken, some) in
+    sym (c.next_word.ensures.value ∙ (λ i. placed (number i) (taken i) (word_in (codes "tick") (here i))))
 
 -- the fields are those of the line
 counted : (g : Over) (c : After-count-count g) → c.count-count.result ≡ length (fields_of c.args.line.now)
-counted g c = c.count-count.ensures ∙ ap (λ l. length (fields_of l)) (c.next-word.ensures.moved.same_line ∙ c.of-fields.ensures.same_line)
+counted g c = c.count-count.ensures ∙ ap (λ l. length (fields_of l)) (c.next_word.ensures.moved.same_line ∙ c.of-fields.ensures.same_line)
 
-pub returns-in-err-next-word : goal.returns-in-err-next-word
-returns-in-err-next-word g c =
-    let p = err_from_is_err_and c.from-residual.result c.from-residual.ensures.1 in
-    let all = other_word g.row.V-Value.valued c.args.number (fields_of c.args.line.now) (length c.args.inputs.now) c.in-err-next-word.field-0.0 (asked g (goal.at.returns-in-err-next-word g c).After-next-word ∙ c.in-err-next-word.was) in
+pub returns-in_err-next_word : goal.returns-in_err-next_word
+returns-in_err-next_word g c =
+    let p = err_from_is_err_and c.from_residual.result c.from_residual.ensures.1 in
+    let all = other_word g.V.Value.valued c.args.number (fields_of c.args.line.now) (length c.args.inputs.now) c.in_err-next_word.field-0.0 (asked g (goal.at.returns-in_err-next_word g c).After-next_word ∙ c.in_err-next_word.was) in
     record { answer = p.1 ∙ ap Err p.2 ∙ sym (ap only all); inputs = λ gs ok. never_ok (sym all ∙ ok) }
 
-pub overflow-sub-count : goal.overflow-sub-count
-overflow-sub-count g c = omega (arith, counted g (goal.at.overflow-sub-count g c).After-count-count, some_piece 44 c.args.line.now)
+pub overflow_sub-count : goal.overflow_sub-count
+overflow_sub-count g c = omega (arith, counted g (goal.at.overflow_sub-count g c).After-count-count, some_piece 44 c.args.line.now)
 
 pub returns-then-count-inputs : goal.returns-then-count-inputs
 returns-then-count-inputs g c =
     let fs = fields_of c.args.line.now in
     let e = length c.args.inputs.now in
     let many = counted g (goal.at.returns-then-count-inputs g c).After-count-count in
-    let ok = asked g (goal.at.returns-then-count-inputs g c).After-next-word ∙ c.in-ok-next-word.was in
-    let all = other_count g.row.V-Value.valued c.args.number fs e tt ok (λ is. c.if-count-inputs.true (omega (arith, many, is))) in
+    let ok = asked g (goal.at.returns-then-count-inputs g c).After-next_word ∙ c.in_ok-next_word.was in
+    let all = other_count g.V.Value.valued c.args.number fs e tt ok (λ is. c.if-count-inputs.true (omega (arith, many, is))) in
     record { answer = ap (λ n. Err (fault FieldCount c.args.number n)) many ∙ sym (ap only all); inputs = λ gs good. never_ok (sym all ∙ good) }
 
-pub read-inputs-requires : goal.read-inputs-requires
-read-inputs-requires g c =
+pub read_inputs-requires : goal.read_inputs-requires
+read_inputs-requires g c =
     let b = c.of-fields.ensures in
-    let moved = c.next-word.ensures.moved in
+    let moved = c.next_word.ensures.moved in
     let some = some_piece 44 c.of-fields.result.line.now in
-    let many = counted g (goal.at.read-inputs-requires g c).After-count-count in
+    let many = counted g (goal.at.read_inputs-requires g c).After-count-count in
     let enough = some_piece 44 c.args.line.now in
     record { in_all = sym c.count-count.ensures ∙ omega (arith, many, c.if-count-inputs.false, enough); so_far = moved.one_taken ∙ omega (arith, b.none_taken, some) }
 
 pub returns : goal.returns
 returns g c =
     let b = c.of-fields.ensures in
-    let moved = c.next-word.ensures.moved in
+    let moved = c.next_word.ensures.moved in
     let n = c.args.number in
     let fs = fields_of c.args.line.now in
     let e = length c.args.inputs.now in
-    let valued = g.row.V-Value.valued in
-    let same : c.next-word.new.self.line.now ≡ c.args.line.now = moved.same_line ∙ b.same_line in
-    let number : c.next-word.new.self.number ≡ n = moved.same_number ∙ b.same_number in
+    let valued = g.V.Value.valued in
+    let same : c.next_word.new.self.line.now ≡ c.args.line.now = moved.same_line ∙ b.same_line in
+    let number : c.next_word.new.self.number ≡ n = moved.same_number ∙ b.same_number in
     let many = counted g (goal.at.returns g c).After-count-count in
     let enough = some_piece 44 c.args.line.now in
-    let ok = asked g (goal.at.returns g c).After-next-word ∙ c.in-ok-next-word.was in
-    let all : inputs_in valued c.next-word.new.self.number 1 e (fields_in c.next-word.new.self) ≡ tick_line valued n e fs =
+    let ok = asked g (goal.at.returns g c).After-next_word ∙ c.in_ok-next_word.was in
+    let all : inputs_in valued c.next_word.new.self.number 1 e (fields_in c.next_word.new.self) ≡ tick_line valued n e fs =
     (λ i. inputs_in valued (number i) 1 e (fields_of (same i))) ∙ sym (right_count valued n fs e tt ok (omega (arith, many, c.if-count-inputs.false, enough))) in
-    record { answer = c.read-inputs.ensures.answer ∙ ap only all; inputs = λ gs good. c.read-inputs.ensures.inputs gs (all ∙ good) }
+    record { answer = c.read_inputs.ensures.answer ∙ ap only all; inputs = λ gs good. c.read_inputs.ensures.inputs gs (all ∙ good) }

@@ -13,8 +13,8 @@ returns-in-Err g c =
     let d = drawing c.args.diagram.now in
     let l = c.args.lines.now in
     let out = string_bytes c.args.out.now in
-    let bad = run_refused g.row.V-Value.valued m d (l.taken + 1) (lines_left l) c.args.wires.now c.args.cells.now c.requires.0 c.requires.1.0 c.in-Err.fault (sym c.in-Err.ensures) in
-    IfOk-weaker c.writeln.result _ _ (λ _ wrote. wrote ∙ ap (λ t. out ++ printed g.row.V-Value.numbered t) (sym bad)) c.writeln.ensures.bytes
+    let bad = run_refused g.V.Value.valued m d (l.taken + 1) (lines_left l) c.args.wires.now c.args.cells.now c.requires.0 c.requires.1.0 c.in-Err.fault (sym c.in-Err.ensures) in
+    IfOk-weaker c.writeln.result _ _ (λ _ wrote. wrote ∙ ap (λ t. out ++ printed g.V.Value.numbered t) (sym bad)) c.writeln.ensures.bytes
 
 pub returns : goal.returns
 returns g c =
@@ -22,8 +22,8 @@ returns g c =
     let d = drawing c.args.diagram.now in
     let l = c.args.lines.now in
     let out = string_bytes c.args.out.now in
-    let valued = g.row.V-Value.valued in
+    let valued = g.V.Value.valued in
     let run = c.new-run.result in
-    let is = run_made valued m d (l.taken + 1) (lines_left l) c.args.wires.now c.args.cells.now c.requires.0 c.requires.1.0 tt (sym c.in-default.ensures) in
+    let is = run_made valued m d (l.taken + 1) (lines_left l) c.args.wires.now c.args.cells.now c.requires.0 c.requires.1.0 tt (sym c.in_default.ensures) in
     let made = c.new-run.ensures in
-    IfOk-weaker c.play-ticks.result _ _ (λ _ wrote. wrote ∙ ap (λ t. out ++ printed g.row.V-Value.numbered t) ((λ i. ticks_of valued m (made.diagram i) (made.state i) (l.taken + 1) (lines_left l)) ∙ sym is)) c.play-ticks.ensures
+    IfOk-weaker c.play_ticks.result _ _ (λ _ wrote. wrote ∙ ap (λ t. out ++ printed g.V.Value.numbered t) ((λ i. ticks_of valued m (made.diagram i) (made.state i) (l.taken + 1) (lines_left l)) ∙ sym is)) c.play_ticks.ensures

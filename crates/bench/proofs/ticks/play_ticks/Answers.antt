@@ -15,17 +15,17 @@ use Rattle.bench.proofs.ticks.play_ticks.Goals as goal
 pub loop-run-smaller : goal.loop-run-smaller
 loop-run-smaller g c =
     let r = c.loop-run.run in
-    next_shorter g.row.V-Value.valued (g.K.Kit.meaning c.args.kit.now) (drawing_of_run r) (state_of r) (state_of c.next-tick.new.run) c.loop-run.lines c.next-tick.new.lines c.in-Ok.played c.in-Ok.ensures.next
+    next_shorter g.V.Value.valued (g.K.Kit.meaning c.args.kit.now) (drawing_of_run r) (state_of r) (state_of c.next_tick.new.run) c.loop-run.lines c.next_tick.new.lines c.in-Ok.played c.in-Ok.ensures.next
 
 pub loop-run-preserved : goal.loop-run-preserved
 loop-run-preserved g c =
     let r = c.loop-run.run in
-    let r' = c.next-tick.new.run in
+    let r' = c.next_tick.new.run in
     let l = c.loop-run.lines in
-    let l' = c.next-tick.new.lines in
+    let l' = c.next_tick.new.lines in
     let m = g.K.Kit.meaning c.args.kit.now in
-    let valued = g.row.V-Value.valued in
-    let num = g.row.V-Value.numbered in
+    let valued = g.V.Value.valued in
+    let num = g.V.Value.numbered in
     let d = drawing_of_run c.args.run.now in
     let same = c.loop-run.invariant.1 in
     let p = c.in-Ok.played in
@@ -34,7 +34,7 @@ loop-run-preserved g c =
     let next : NextTick valued m d (state_of r) l (Ok p) (state_of r') l' = subst (λ e. NextTick valued m e (state_of r) l (Ok p) (state_of r') l') same c.in-Ok.ensures.next in
     let on = next_shows valued m d (state_of r) (state_of r') l l' p next in
     let out = string_bytes c.loop-run.out in
-    let wrote : string_bytes c.writeln.new.self ≡ out ++ shown_line num x = c.in-ok-writeln.ensures.bytes ∙ ap (λ ws. out ++ (shown_report num p.closed p.settled.rounds ws ++ 10 ∷ [])) c.wires.ensures in (
+    let wrote : string_bytes c.writeln.new.self ≡ out ++ shown_line num x = c.in_ok-writeln-in-Ok.ensures.bytes ∙ ap (λ ws. out ++ (shown_report num p.closed p.settled.rounds ws ++ 10 ∷ [])) c.wires.ensures in (
       ap (λ b. b ++ printed num rest) wrote ∙ append_assoc out (shown_line num x) (printed num rest) ∙ ap (λ b. out ++ b) (sym (printed_more num x rest)) ∙ ap (λ t. out ++ printed num t) (sym on) ∙ c.loop-run.invariant.0,
       c.in-Ok.ensures.diagram ∙ same,
     )
@@ -42,12 +42,12 @@ loop-run-preserved g c =
 pub returns-in-Err : goal.returns-in-Err
 returns-in-Err g c =
     let r = c.loop-run.run in
-    let r' = c.next-tick.new.run in
+    let r' = c.next_tick.new.run in
     let l = c.loop-run.lines in
-    let l' = c.next-tick.new.lines in
+    let l' = c.next_tick.new.lines in
     let m = g.K.Kit.meaning c.args.kit.now in
-    let valued = g.row.V-Value.valued in
-    let num = g.row.V-Value.numbered in
+    let valued = g.V.Value.valued in
+    let num = g.V.Value.numbered in
     let d = drawing_of_run c.args.run.now in
     let f = c.in-Err.fault in
     let out = string_bytes c.loop-run.out in
@@ -61,8 +61,8 @@ returns g c =
     let r = c.loop-run.run in
     let l = c.loop-run.lines in
     let m = g.K.Kit.meaning c.args.kit.now in
-    let valued = g.row.V-Value.valued in
-    let num = g.row.V-Value.numbered in
+    let valued = g.V.Value.valued in
+    let num = g.V.Value.numbered in
     let d = drawing_of_run c.args.run.now in
     let empty = nil_from_length l.rest.now (eqb-true (length l.rest.now) 0 (sym c.loop-run-test.ensures)) in
     let done : ticks_of valued m d (state_of r) (l.taken + 1) (lines_left l) ≡ ends = ap (λ xs. ticks_of valued m d (state_of r) (l.taken + 1) (pieces 10 xs)) empty ∙ none_left valued m d (state_of r) (l.taken + 1) in

@@ -5,9 +5,9 @@ use Rattle.cases.proofs.offering.opened.Goals as goal
 
 pub returns : goal.returns
 returns g c =
-    let t = token_of c.in-ok-token.token in
+    let t = token_of c.in_ok-token.token in
     let r = c.begin.new.self in
     let r' = c.settle.new.self in
-    let begun = c.in-ok-token.ensures in
+    let begun = c.in_ok-token.ensures in
     let own = own_begun (state_of c.args.run.now) (state_of r) t begun.answer begun.state in
     still_own {s = state_of r} {s' = state_of r'} t own (alike_left c.settle.ensures.state (alike_settle (drawing_of_run r) (state_of r) (g.K.Kit.meaning c.args.kit.now)))

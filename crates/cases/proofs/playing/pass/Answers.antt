@@ -5,7 +5,7 @@ use Rattle.cases.proofs.playing.pass.Goals as goal
 
 pub unwrap-requires : goal.unwrap-requires
 unwrap-requires g c =
-    let t = token_of c.in-ok-token.token in
+    let t = token_of c.in_ok-token.token in
     let r = c.begin.new.self in
-    let begun = c.in-ok-token.ensures in
+    let begun = c.in_ok-token.ensures in
     close_runs c.close.result (g.K.Kit.meaning c.args.kit.now) (drawing_of_run r) (state_of r) t Drop c.close.ensures.answer (own_begun (state_of c.loop.run) (state_of r) t begun.answer begun.state)

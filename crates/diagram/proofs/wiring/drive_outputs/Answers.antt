@@ -15,7 +15,7 @@ after_one k p driven ws marks marks' r =
       | false ↦ λ first then-on. never_ok (sym first)
     ]
 
-pub returns-in-ok-drive : goal.returns-in-ok-drive
-returns-in-ok-drive c driven m =
-    let told = after_one c.args.k c.in-Two.p driven (c.in-Two.q ∷ []) c.drive-in-Two.new.marks c.drive-in-Two-2.new.marks c.drive-in-Two-2.result (c.in-ok-drive.ensures driven m) c.drive-in-Two-2.ensures in
+pub returns-in_ok-drive-in-Two : goal.returns-in_ok-drive-in-Two
+returns-in_ok-drive-in-Two c driven m =
+    let told = after_one c.args.k c.in-Two.p driven (c.in-Two.q ∷ []) c.drive-in-Two.new.marks c.drive-in-Two-2.new.marks c.drive-in-Two-2.result (c.in_ok-drive-in-Two.ensures driven m) c.drive-in-Two-2.ensures in
     subst (λ p. MarkedBy (driven_by c.args.k driven (outs p)) c.drive-in-Two-2.result c.drive-in-Two-2.new.marks) (sym c.in-Two.is) told

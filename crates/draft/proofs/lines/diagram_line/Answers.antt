@@ -2,5 +2,5 @@ use Rattle.std.proofs.Common.{rules}
 use Rattle.text.proofs.Cuts.{some_piece}
 use Rattle.draft.proofs.lines.diagram_line.Goals as goal
 
-pub returns-in-err-next-word : goal.returns-in-err-next-word
-returns-in-err-next-word c = let some = some_piece 44 c.args.line.now in search rules
+pub returns-in_err-next_word : goal.returns-in_err-next_word
+returns-in_err-next_word c = let some = some_piece 44 c.args.line.now in search rules

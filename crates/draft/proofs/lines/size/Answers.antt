@@ -3,9 +3,9 @@ use Rattle.text.specs.Numerals.{number_in}
 use Rattle.draft.specs.Lines.{size_in}
 use Rattle.draft.proofs.lines.size.Goals as goal
 
-pub returns-in-err-n : goal.returns-in-err-n
+pub returns-in_err-n : goal.returns-in_err-n
 unfolding size_in
-returns-in-err-n c = search rules
+returns-in_err-n c = search rules
 
 pub returns-then-n-least : goal.returns-then-n-least
 unfolding size_in
@@ -15,6 +15,6 @@ pub returns : goal.returns
 unfolding size_in
 returns c = search rules
 
-pub overflow-cast-n : goal.overflow-cast-n
+pub overflow_cast-n : goal.overflow_cast-n
 unfolding number_in
-overflow-cast-n c = search rules
+overflow_cast-n c = search rules

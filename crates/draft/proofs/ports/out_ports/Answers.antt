@@ -2,13 +2,13 @@ use Rattle.std.proofs.Common.{rules}
 use Rattle.draft.specs.Lines.{out_ports}
 use Rattle.draft.proofs.ports.out_ports.Goals as goal
 
-pub returns-in-err-p : goal.returns-in-err-p
+pub returns-in_err-p : goal.returns-in_err-p
 unfolding out_ports
-returns-in-err-p c = search rules
+returns-in_err-p c = search rules
 
-pub returns-in-err-port : goal.returns-in-err-port
+pub returns-in_err-port : goal.returns-in_err-port
 unfolding out_ports
-returns-in-err-port c = search rules
+returns-in_err-port c = search rules
 
 pub returns-in-None : goal.returns-in-None
 unfolding out_ports

@@ -11,25 +11,25 @@ use Rattle.marks.proofs.mark.input.Goals.{After-eq, After-eq-2, After-branch-num
 
 -- what `==` answered is the definition's test
 first : (g : Over) (c : After-eq g) → bytes_eq c.args.field.now (codes "?") ≡ c.eq.result
-first g c = let f = c.args.field.now in same_from_decides (bytes_eq f (codes "?")) c.eq.result (bytes_eq-Decides f (codes "?")) (slice_eq-Decides Decides-eqb f (codes "?") _ c.eq.ensures)
+first g c = let f = c.args.field.now in same_from_decides (bytes_eq f (codes "?")) c.eq.result (bytes_eq-Decides f (codes "?")) (slice_eq-Decides Decides-eqb f (codes "?") _ (rw c.as_slice.ensures at c.eq.ensures))
 
 second : (g : Over) (c : After-eq-2 g) → bytes_eq c.args.field.now (codes ".") ≡ c.eq-2.result
-second g c = let f = c.args.field.now in same_from_decides (bytes_eq f (codes ".")) c.eq-2.result (bytes_eq-Decides f (codes ".")) (slice_eq-Decides Decides-eqb f (codes ".") _ c.eq-2.ensures)
+second g c = let f = c.args.field.now in same_from_decides (bytes_eq f (codes ".")) c.eq-2.result (bytes_eq-Decides f (codes ".")) (slice_eq-Decides Decides-eqb f (codes ".") _ (rw c.as_slice-2.ensures at c.eq-2.ensures))
 
 pub returns-then-eq : goal.returns-then-eq
-returns-then-eq g c = sym (nothing_marked g.V-as-Value.valued c.args.field.now (first g (goal.at.returns-then-eq g c).After-eq ∙ c.if-eq.true))
+returns-then-eq g c = sym (nothing_marked g.V.Value.valued c.args.field.now (first g (goal.at.returns-then-eq g c).After-eq ∙ c.if-eq.true))
 
 pub returns-then-eq-2 : goal.returns-then-eq-2
 returns-then-eq-2 g c =
-    sym (absent_marked g.V-as-Value.valued c.args.field.now (first g (goal.at.returns-then-eq-2 g c).After-eq ∙ c.if-eq.false) (second g (goal.at.returns-then-eq-2 g c).After-eq-2 ∙ c.if-eq-2.true))
+    sym (absent_marked g.V.Value.valued c.args.field.now (first g (goal.at.returns-then-eq-2 g c).After-eq ∙ c.if-eq.false) (second g (goal.at.returns-then-eq-2 g c).After-eq-2 ∙ c.if-eq-2.true))
 
-pub returns-in-err-number : goal.returns-in-err-number
-returns-in-err-number g c =
-    let p = err_from_is_err_and c.from-residual.result c.from-residual.ensures.1 in
+pub returns-in_err-number : goal.returns-in_err-number
+returns-in_err-number g c =
+    let p = err_from_is_err_and c.from_residual.result c.from_residual.ensures.1 in
     p.1 ∙ ap Err p.2
-    ∙ sym (number_marked g.V-as-Value.valued c.args.field.now (first g (goal.at.returns-in-err-number g c).After-eq ∙ c.if-eq.false) (second g (goal.at.returns-in-err-number g c).After-eq-2 ∙ c.if-eq-2.false) (Err c.in-err-number.field-0.0) (sym c.in-err-number.ensures.value))
+    ∙ sym (number_marked g.V.Value.valued c.args.field.now (first g (goal.at.returns-in_err-number g c).After-eq ∙ c.if-eq.false) (second g (goal.at.returns-in_err-number g c).After-eq-2 ∙ c.if-eq-2.false) (Err c.in_err-number.field-0.0) (sym c.in_err-number.ensures.value))
 
 pub returns : goal.returns
 returns g c =
-    let by = number_marked g.V-as-Value.valued c.args.field.now (first g (goal.at.returns g c).After-eq ∙ c.if-eq.false) (second g (goal.at.returns g c).After-eq-2 ∙ c.if-eq-2.false) (Ok c.in-ok-number.number) (sym c.in-ok-number.ensures.value) in
+    let by = number_marked g.V.Value.valued c.args.field.now (first g (goal.at.returns g c).After-eq ∙ c.if-eq.false) (second g (goal.at.returns g c).After-eq-2 ∙ c.if-eq-2.false) (Ok c.in_ok-number.number) (sym c.in_ok-number.ensures.value) in
     search rules

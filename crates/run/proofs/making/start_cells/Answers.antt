@@ -12,8 +12,8 @@ starts_append : {V : Type 0} (m : Meaning V) (bs cs : List Block) → starts m (
 starts_append m [] cs = refl
 starts_append m (b ∷ bs) cs = ap (λ x. m.start b.kind b.parameter ∷ x) (starts_append m bs cs)
 
-pub offset-bounds-cells-k : goal.offset-bounds-cells-k
-offset-bounds-cells-k g c =
+pub offset_bounds-cells-k : goal.offset_bounds-cells-k
+offset_bounds-cells-k g c =
     let lent : c.loop-k.k < length c.args.cells.now = omega (arith, c.loop-k-test.true, ap length c.blocks-block-items.ensures, c.requires) in
     search rules
 
@@ -24,9 +24,9 @@ loop-k-preserved g c =
     let k = c.loop-k.k in
     let cells = c.loop-k.cells in
     let inside : k < length d.blocks = subst (λ bs. k < length bs) c.blocks-block-items.ensures c.loop-k-test.true in
-    let started = c.start-of.ensures ∙ ap (λ bs. m.start (get_or bs k blank).kind (get_or bs k blank).parameter) c.blocks-block-items.ensures in
-    take_more_set cells k c.start-of.result (omega (arith, inside, c.requires, c.loop-k.auto.cells))
-    ∙ ap (λ cs. cs ++ c.start-of.result ∷ []) c.loop-k.invariant
+    let started = c.start_of.ensures ∙ ap (λ bs. m.start (get_or bs k blank).kind (get_or bs k blank).parameter) c.blocks-block-items.ensures in
+    take_more_set cells k c.start_of.result (omega (arith, inside, c.requires, c.loop-k.auto.cells))
+    ∙ ap (λ cs. cs ++ c.start_of.result ∷ []) c.loop-k.invariant
     ∙ ap (λ x. starts m (take k d.blocks) ++ x ∷ []) started
     ∙ sym (ap (starts m) (take_more d.blocks k blank inside) ∙ starts_append m (take k d.blocks) (block_at d k ∷ []))
 

@@ -12,7 +12,7 @@ loop-w-preserved g c =
     let w = c.loop-w.w in
     let l = c.loop-w-test.true in
     let here : at ws w ≡ c.index-wires-w.result = sym (get_or_read ws w c.index-wires-w.result l c.index-wires-w.is Unknown) in
-    omega (arith, c.loop-w.invariant, at_drop_more lowest_unknown ws w Unknown l, passed_over (at ws w) (drop (w + 1) ws) (λ e. c.in-default.not-Unknown (sym here ∙ e)))
+    omega (arith, c.loop-w.invariant, at_drop_more lowest_unknown ws w Unknown l, passed_over (at ws w) (drop (w + 1) ws) (λ e. c.in_default.not-Unknown (sym here ∙ e)))
 
 pub returns-in-Unknown : goal.returns-in-Unknown
 returns-in-Unknown g c =

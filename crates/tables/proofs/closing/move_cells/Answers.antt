@@ -13,22 +13,22 @@ use Rattle.tables.proofs.Closings.{next_later, next_more}
 use Rattle.tables.proofs.Places.{in_place}
 use Rattle.tables.proofs.closing.move_cells.Goals as goal
 
-pub next-of-requires : goal.next-of-requires
-next-of-requires g c =
+pub next_of-requires : goal.next_of-requires
+next_of-requires g c =
     let d = c.args.diagram.now in
     let k = c.loop-k.k in
     let inside : k < length (drawing d).blocks = subst (λ bs. k < length bs) c.blocks-block-items.ensures c.loop-k-test.true in
     subst (λ bs. Below (length c.args.wires.now) (ins (get_or bs k blank).inputs)) (sym c.blocks-block-items.ensures)
     (subst (λ n. Below n (ins (get_or (drawing d).blocks k blank).inputs)) (sym c.requires.wires_fit) (in_place d k inside).0)
 
-pub offset-bounds-cells-k : goal.offset-bounds-cells-k
-offset-bounds-cells-k g c =
+pub offset_bounds-cells-k : goal.offset_bounds-cells-k
+offset_bounds-cells-k g c =
     let lent : c.loop-k.k < length c.args.cells.now = omega (arith, c.loop-k-test.true, ap length c.blocks-block-items.ensures, c.requires.cells_fit) in
     let l : c.loop-k.k < length c.loop-k.cells = omega (arith, lent, c.loop-k.auto.cells) in
     search rules
 
-pub offset-bounds-cells-k-in-loop-k : goal.offset-bounds-cells-k-in-loop-k
-offset-bounds-cells-k-in-loop-k g c =
+pub offset_bounds-cells-k-in-loop-k : goal.offset_bounds-cells-k-in-loop-k
+offset_bounds-cells-k-in-loop-k g c =
     let lent : c.loop-k.k < length c.args.cells.now = omega (arith, c.loop-k-test.true, ap length c.blocks-block-items.ensures, c.requires.cells_fit) in
     search rules
 
@@ -45,11 +45,11 @@ loop-k-preserved g c =
     let was : c.index-cells-k.result ≡ cell_at from k =
     get_or_read cells k c.index-cells-k.result here c.index-cells-k.is Empty ∙ ap (λ cs. cell_at cs k) c.loop-k.invariant ∙ next_later m ws d.blocks k from inside in
     let moved =
-    c.next-of.ensures
+    c.next_of.ensures
     ∙ ap (λ bs. next_cell m ws (get_or bs k blank) c.index-cells-k.result) c.blocks-block-items.ensures
     ∙ ap (next_cell m ws (block_at d k)) was in
     let one_more : suc k ≡ k + 1 = omega arith in
-    ap (λ cs. set cs k c.next-of.result) c.loop-k.invariant
+    ap (λ cs. set cs k c.next_of.result) c.loop-k.invariant
     ∙ ap (set (next_cells m ws (take k d.blocks) from) k) moved
     ∙ sym (next_more m ws d.blocks k from inside (omega (arith, inside, c.requires.cells_fit)))
     ∙ ap (λ n. next_cells m ws (take n d.blocks) from) one_more

@@ -9,9 +9,9 @@ use Rattle.tables.specs.Fitting.{fitting, fitting_at, where_taken}
 use Rattle.tables.proofs.Fits.{fit_taken}
 use Rattle.tables.proofs.firing.fire.Goals as goal
 
-pub fire-at-requires : goal.fire-at-requires
-fire-at-requires g c =
-    (omega (arith, c.if-k-blocks.false, ap length c.blocks-blocks.ensures), fit_taken (drawing c.args.diagram.now) c.args.wires.now c.args.cells.now tt (sym c.in-ok-check-lengths.ensures))
+pub fire_at-requires : goal.fire_at-requires
+fire_at-requires g c =
+    (omega (arith, c.if-k-blocks.false, ap length c.blocks-blocks.ensures), fit_taken (drawing c.args.diagram.now) c.args.wires.now c.args.cells.now tt (sym c.in_ok-check_lengths.ensures))
 
 pub returns-then-k-blocks : goal.returns-then-k-blocks
 returns-then-k-blocks g c =
@@ -22,7 +22,7 @@ returns-then-k-blocks g c =
     let k = c.args.k in
     let many : length c.blocks-blocks.result.now ≡ length d.blocks = ap length c.blocks-blocks.ensures in
     let after = after_fire m ws (block_at d k) (cell_at cells k) in
-    let ok : fitting d ws cells ≡ Ok tt = sym c.in-ok-check-lengths.ensures in
+    let ok : fitting d ws cells ≡ Ok tt = sym c.in_ok-check_lengths.ensures in
     let bad : fitting_at d ws cells k ≡ Err (fault NumberOutside k (length d.blocks)) =
     ap (λ r. then r (λ _. cond (leb (length d.blocks) k) (Err (fault NumberOutside k (length d.blocks))) (Ok tt))) ok
     ∙ cond-true (leb (length d.blocks) k) (Err (fault NumberOutside k (length d.blocks))) (Ok tt) (le-leb (length d.blocks) k (omega (arith, many, c.if-k-blocks.true))) in
@@ -41,12 +41,12 @@ returns g c =
     let k = c.args.k in
     let many : length c.blocks-blocks.result.now ≡ length d.blocks = ap length c.blocks-blocks.ensures in
     let after = after_fire m ws (block_at d k) (cell_at cells k) in
-    let ok : fitting d ws cells ≡ Ok tt = sym c.in-ok-check-lengths.ensures in
+    let ok : fitting d ws cells ≡ Ok tt = sym c.in_ok-check_lengths.ensures in
     let fine : fitting_at d ws cells k ≡ Ok tt =
     ap (λ r. then r (λ _. cond (leb (length d.blocks) k) (Err (fault NumberOutside k (length d.blocks))) (Ok tt))) ok
     ∙ cond-false (leb (length d.blocks) k) (Err (fault NumberOutside k (length d.blocks))) (Ok tt) (lt-leb (length d.blocks) k (omega (arith, many, c.if-k-blocks.false))) in
-    let done = c.fire-at.ensures in
-    let learned : c.fire-at.result ≡ known after - known ws = omega (arith, done.count, ap known done.after) in
+    let done = c.fire_at.ensures in
+    let learned : c.fire_at.result ≡ known after - known ws = omega (arith, done.count, ap known done.after) in
     record {
       answer = ap Ok learned ∙ sym (ap (λ r. then r (λ _. Ok (known after - known ws))) fine);
       after = done.after ∙ sym (ap (λ r. where_taken r after ws) fine);

@@ -7,8 +7,8 @@ use Rattle.diagram.specs.Wiring.{ins, outs}
 use Rattle.tables.proofs.Places.{in_place}
 use Rattle.tables.proofs.firing.fire_at.Goals as goal
 
-pub fire-block-requires : goal.fire-block-requires
-fire-block-requires g c =
+pub fire_block-requires : goal.fire_block-requires
+fire_block-requires g c =
     let d = c.args.diagram.now in
     let k = c.args.k in
     let wide = sym c.requires.1.wires_fit in

@@ -36,7 +36,7 @@ returns-in-Unknown g c =
     let was = unknown_was g (goal.at.returns-in-Unknown g c).In-Unknown in
     record {
       after = ap (λ s. set ws w (takes s c.args.answer)) (sym was);
-      count = omega (arith, known_set ws w c.args.answer c.requires, ap weight was, weight_known c.args.answer c.in-default-answer.not-Unknown);
+      count = omega (arith, known_set ws w c.args.answer c.requires, ap weight was, weight_known c.args.answer c.in_default-answer.not-Unknown);
       few = omega arith;
     }
 
@@ -46,7 +46,7 @@ returns g c =
     let w = c.args.wire in
     let was : at ws w ≡ c.index-wires-at.result = sym (get_or_read ws w c.index-wires-at.result c.requires c.index-wires-at.is Unknown) in
     record {
-      after = sym (ap (set ws w) (takes_known (at ws w) c.args.answer (λ e. c.in-default.not-Unknown (sym was ∙ e))) ∙ set-get_or ws w Unknown);
+      after = sym (ap (set ws w) (takes_known (at ws w) c.args.answer (λ e. c.in_default.not-Unknown (sym was ∙ e))) ∙ set-get_or ws w Unknown);
       count = omega arith;
       few = omega arith;
     }

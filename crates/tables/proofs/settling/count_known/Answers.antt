@@ -5,10 +5,10 @@ use Rattle.machine.proofs.Rows.{known_within}
 use Rattle.machine.specs.Tables.{at, weight, known}
 use Rattle.tables.proofs.KnownLaws.{known_more, weight_known}
 use Rattle.tables.proofs.settling.count_known.Goals as goal
-use Rattle.tables.proofs.settling.count_known.Goals.{in-Unknown, in-default}
+use Rattle.tables.proofs.settling.count_known.Goals.{in-Unknown, in_default}
 
-pub overflow-add-known : goal.overflow-add-known
-overflow-add-known g c =
+pub overflow_add-known : goal.overflow_add-known
+overflow_add-known g c =
     let ws = c.args.wires.now in
     let i = c.loop-wire.wire-index in
     let l = c.loop-wire-test.true in
@@ -24,7 +24,7 @@ loop-wire-preserved g c =
     let here : at ws i ≡ c.wire-item.result = sym (get_or_read ws i c.wire-item.result l c.wire-item.is Unknown) in
     elim c.match-wire.branch [
       | in-Unknown w ↦ omega (arith, w.known-is, c.loop-wire.invariant, more, ap weight (here ∙ w.in-Unknown.is))
-      | in-default w ↦ omega (arith, w.known-is, c.loop-wire.invariant, more, ap weight here, weight_known c.wire-item.result w.in-default.not-Unknown)
+      | in_default w ↦ omega (arith, w.known-is, c.loop-wire.invariant, more, ap weight here, weight_known c.wire-item.result w.in_default.not-Unknown)
     ]
 
 pub returns : goal.returns

@@ -6,8 +6,8 @@ use Rattle.tables.specs.Fitting.{fitting, where_taken}
 use Rattle.tables.proofs.Fits.{fit_taken}
 use Rattle.tables.proofs.settling.settle.Goals as goal
 
-pub settle-wires-requires : goal.settle-wires-requires
-settle-wires-requires g c = fit_taken (drawing c.args.diagram.now) c.args.wires.now c.args.cells.now tt (sym c.in-ok-check-lengths.ensures)
+pub settle_wires-requires : goal.settle_wires-requires
+settle_wires-requires g c = fit_taken (drawing c.args.diagram.now) c.args.wires.now c.args.cells.now tt (sym c.in_ok-check_lengths.ensures)
 
 pub returns : goal.returns
 returns g c =
@@ -15,8 +15,8 @@ returns g c =
     let d = drawing c.args.diagram.now in
     let ws = c.args.wires.now in
     let cells = c.args.cells.now in
-    let ok : fitting d ws cells ≡ Ok tt = sym c.in-ok-check-lengths.ensures in
-    let done = c.settle-wires.ensures in
+    let ok : fitting d ws cells ≡ Ok tt = sym c.in_ok-check_lengths.ensures in
+    let done = c.settle_wires.ensures in
     record {
       answer = ap Ok done.answer ∙ sym (ap (λ r. then r (λ _. Ok (settle_answer m d cells ws))) ok);
       after = done.after ∙ sym (ap (λ r. where_taken r (settled m d cells ws).wires ws) ok);

@@ -11,11 +11,11 @@ use Rattle.text.proofs.Capped.{capped}
 use Rattle.text.proofs.numerals.digits.Goals as goal
 
 -- the digit at hand is the first of what is left
-pub returns-then-not-is-ascii-digit : goal.returns-then-not-is-ascii-digit
-returns-then-not-is-ascii-digit c =
+pub returns-then-not-is_ascii_digit : goal.returns-then-not-is_ascii_digit
+returns-then-not-is_ascii_digit c =
     let f = c.args.field.now in
     let i = c.loop-b.b-index in
-    let no_digit = c.if-not-is-ascii-digit.ensures.value in
+    let no_digit = c.if-not-is_ascii_digit.ensures.value in
     let none : all_ascii_digits f ≡ false = c.loop-b.invariant.1 ∙ at_drop_more all_ascii_digits f i 0 c.loop-b-test.true ∙ ap (λ b. b && all_ascii_digits (drop (i + 1) f)) (sym no_digit) in
     sym (cond-false (well_formed f) _ _ (and_right _ (all_ascii_digits f) none))
 
@@ -25,7 +25,7 @@ loop-b-preserved c =
     let i = c.loop-b.b-index in
     let rest = drop (i + 1) f in
     let m = c.loop-b.n * 10 + digit_value (get_or f i 0) in
-    let digit = c.if-not-is-ascii-digit.ensures in
+    let digit = c.if-not-is_ascii_digit.ensures in
     let value_is = digit_value_digit (get_or f i 0) digit.cases in
     let n_is : c.min-n.result ≡ min m beyond = omega (arith, c.min-n.ensures) in (
       omega (arith, n_is),

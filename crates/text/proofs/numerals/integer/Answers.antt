@@ -12,18 +12,18 @@ returns-then-field-eq45 c =
     let v = c.negative.ensures ∙ ap negative_in (take_rest f 1) ∙ sym (cond-true _ _ _ (eq-eqb (get_or f 0 0) 45 c.if-field-eq45.true)) in
     record { value = v; exact = exact_integer f _ v }
 
-pub returns-in-err-n : goal.returns-in-err-n
+pub returns-in_err-n : goal.returns-in_err-n
 unfolding integer_in number_in
-returns-in-err-n c =
-    let v : c.from-residual.result ≡ integer_in c.args.field.now = search rules in
+returns-in_err-n c =
+    let v : c.from_residual.result ≡ integer_in c.args.field.now = search rules in
     record { value = v; exact = exact_integer c.args.field.now _ v }
 
 pub returns : goal.returns
 unfolding integer_in number_in
 returns c =
-    let v : Ok (to_z w32 c.in-ok-n.n) ≡ integer_in c.args.field.now = search rules in
+    let v : Ok (to_z w32 c.in_ok-n.n) ≡ integer_in c.args.field.now = search rules in
     record { value = v; exact = exact_integer c.args.field.now _ v }
 
-pub overflow-cast-result : goal.overflow-cast-result
+pub overflow_cast-result : goal.overflow_cast-result
 unfolding number_in
-overflow-cast-result c = search rules
+overflow_cast-result c = search rules

@@ -11,12 +11,12 @@ same_ok : (r : Result Closed CloseRefused) → is_ok (close_answer r) ≡ is_ok 
 same_ok (Ok c) = refl
 same_ok (Err x) = refl
 
-pub returns-in-err-token : goal.returns-in-err-token
-returns-in-err-token g c =
-    let p = err_from_is_err_and c.from-residual.result c.from-residual.ensures.1 in
+pub returns-in_err-token : goal.returns-in_err-token
+returns-in_err-token g c =
+    let p = err_from_is_err_and c.from_residual.result c.from_residual.ensures.1 in
     let r = c.args.run.now in
-    let done = c.in-err-token.ensures in
-    let by = not_begun (g.K.Kit.meaning c.args.kit.now) (drawing_of_run r) (state_of r) c.args.inputs.now c.args.intent c.in-err-token.field-0.0 done.answer in
+    let done = c.in_err-token.ensures in
+    let by = not_begun (g.K.Kit.meaning c.args.kit.now) (drawing_of_run r) (state_of r) c.args.inputs.now c.args.intent c.in_err-token.field-0.0 done.answer in
     record { answer = p.1 ∙ ap Err p.2 ∙ sym (ap (λ o. o.answer) by); state = done.state ∙ sym (ap (λ o. o.state) by); diagram = done.diagram }
 
 pub unwrap-requires : goal.unwrap-requires
@@ -25,10 +25,10 @@ unwrap-requires g c =
     let r = c.args.run.now in
     let gs = c.args.inputs.now in
     let i = c.args.intent in
-    let t = token_of c.in-ok-token.token in
+    let t = token_of c.in_ok-token.token in
     let r₁ = c.begin.new.self in
-    let one = c.in-ok-token.ensures in
-    let r₂ = c.supply-all.new.run in
+    let one = c.in_ok-token.ensures in
+    let r₂ = c.supply_all.new.run in
     let two = c.in-Err.ensures in
     sym (same_ok c.close.result) ∙ ap is_ok c.close.ensures.answer ∙ drop_taken m (drawing_of_run r) (state_of r) gs i t one.answer (drawing_of_run r₁) (state_of r₁) one.diagram one.state (drawing_of_run r₂) (state_of r₂) two.diagram two.state
 
@@ -38,10 +38,10 @@ returns-in-Err g c =
     let r = c.args.run.now in
     let gs = c.args.inputs.now in
     let i = c.args.intent in
-    let t = token_of c.in-ok-token.token in
+    let t = token_of c.in_ok-token.token in
     let r₁ = c.begin.new.self in
-    let one = c.in-ok-token.ensures in
-    let r₂ = c.supply-all.new.run in
+    let one = c.in_ok-token.ensures in
+    let r₂ = c.supply_all.new.run in
     let two = c.in-Err.ensures in
     let last = c.close.ensures in
     let by = dropped m (drawing_of_run r) (state_of r) gs i t one.answer (drawing_of_run r₁) (state_of r₁) one.diagram one.state (drawing_of_run r₂) (state_of r₂) two.diagram two.state c.in-Err.fault (state_of c.close.new.self) two.answer last.state in
@@ -53,11 +53,11 @@ unwrap-settled-requires g c =
     let r = c.args.run.now in
     let gs = c.args.inputs.now in
     let i = c.args.intent in
-    let t = token_of c.in-ok-token.token in
+    let t = token_of c.in_ok-token.token in
     let r₁ = c.begin.new.self in
-    let one = c.in-ok-token.ensures in
-    let r₂ = c.supply-all.new.run in
-    let two = c.in-default.ensures in
+    let one = c.in_ok-token.ensures in
+    let r₂ = c.supply_all.new.run in
+    let two = c.in_default.ensures in
     ap is_ok c.settle.ensures.answer ∙ settle_runs m (drawing_of_run r) (state_of r) gs i t one.answer (drawing_of_run r₁) (state_of r₁) one.diagram one.state (drawing_of_run r₂) (state_of r₂) two.diagram two.state
 
 pub unwrap-closed-requires : goal.unwrap-closed-requires
@@ -66,11 +66,11 @@ unwrap-closed-requires g c =
     let r = c.args.run.now in
     let gs = c.args.inputs.now in
     let i = c.args.intent in
-    let t = token_of c.in-ok-token.token in
+    let t = token_of c.in_ok-token.token in
     let r₁ = c.begin.new.self in
-    let one = c.in-ok-token.ensures in
-    let r₂ = c.supply-all.new.run in
-    let two = c.in-default.ensures in
+    let one = c.in_ok-token.ensures in
+    let r₂ = c.supply_all.new.run in
+    let two = c.in_default.ensures in
     let r₃ = c.settle.new.self in
     let three = c.settle.ensures in
     sym (same_ok c.close-2.result) ∙ ap is_ok c.close-2.ensures.answer ∙ close_runs m (drawing_of_run r) (state_of r) gs i t one.answer (drawing_of_run r₁) (state_of r₁) one.diagram one.state (drawing_of_run r₂) (state_of r₂) two.diagram two.state tt two.answer c.unwrap-settled.result (sym c.unwrap-settled.ensures ∙ three.answer) (drawing_of_run r₃) (state_of r₃) three.diagram three.state
@@ -81,11 +81,11 @@ returns g c =
     let r = c.args.run.now in
     let gs = c.args.inputs.now in
     let i = c.args.intent in
-    let t = token_of c.in-ok-token.token in
+    let t = token_of c.in_ok-token.token in
     let r₁ = c.begin.new.self in
-    let one = c.in-ok-token.ensures in
-    let r₂ = c.supply-all.new.run in
-    let two = c.in-default.ensures in
+    let one = c.in_ok-token.ensures in
+    let r₂ = c.supply_all.new.run in
+    let two = c.in_default.ensures in
     let r₃ = c.settle.new.self in
     let three = c.settle.ensures in
     let last = c.close-2.ensures in

@@ -9,12 +9,12 @@ use Rattle.diagram.specs.Reading.{read_of, after_read}
 use Rattle.diagram.proofs.ReadLaws.{read_from, reads_exactly}
 use Rattle.diagram.proofs.diagram.Diagram.read.Goals as goal
 
-pub returns-in-err-draft : goal.returns-in-err-draft
-returns-in-err-draft c =
+pub returns-in_err-draft : goal.returns-in_err-draft
+returns-in_err-draft c =
     let text = c.args.text.now in
-    let f = c.in-err-draft.field-0.0 in
-    let p = err_from_is_err_and c.from-residual.result c.from-residual.ensures.1 in
-    let is : read_of text ≡ Err f = read_from text (Err f) (sym c.in-err-draft.ensures) in
+    let f = c.in_err-draft.field-0.0 in
+    let p = err_from_is_err_and c.from_residual.result c.from_residual.ensures.1 in
+    let is : read_of text ≡ Err f = read_from text (Err f) (sym c.in_err-draft.ensures) in
     record {
       answer = p.1 ∙ ap Err p.2 ∙ sym (ap (mapped (λ _. tt)) is);
       state = ap (after_read (drawing c.args.self.now)) (sym is);
@@ -22,12 +22,12 @@ returns-in-err-draft c =
       exactly = reads_exactly text;
     }
 
-pub returns-in-err-self : goal.returns-in-err-self
-returns-in-err-self c =
+pub returns-in_err-self : goal.returns-in_err-self
+returns-in_err-self c =
     let text = c.args.text.now in
-    let f = c.in-err-self.field-0.0 in
-    let p = err_from_is_err_and c.from-residual-in-err-self.result c.from-residual-in-err-self.ensures.1 in
-    let is : read_of text ≡ Err f = read_from text _ (sym c.in-ok-draft.ensures) ∙ sym c.in-err-self.ensures in
+    let f = c.in_err-self.field-0.0 in
+    let p = err_from_is_err_and c.from_residual-in_err-self.result c.from_residual-in_err-self.ensures.1 in
+    let is : read_of text ≡ Err f = read_from text _ (sym c.in_ok-draft.ensures) ∙ sym c.in_err-self.ensures in
     record {
       answer = p.1 ∙ ap Err p.2 ∙ sym (ap (mapped (λ _. tt)) is);
       state = ap (after_read (drawing c.args.self.now)) (sym is);
@@ -38,7 +38,7 @@ returns-in-err-self c =
 pub returns : goal.returns
 returns c =
     let text = c.args.text.now in
-    let is : read_of text ≡ Ok (drawing c.in-ok-self.field-0) = read_from text _ (sym c.in-ok-draft.ensures) ∙ sym c.in-ok-self.ensures in
+    let is : read_of text ≡ Ok (drawing c.in_ok-self.field-0) = read_from text _ (sym c.in_ok-draft.ensures) ∙ sym c.in_ok-self.ensures in
     record {
       answer = sym (ap (mapped (λ _. tt)) is);
       state = ap (after_read (drawing c.args.self.now)) (sym is);

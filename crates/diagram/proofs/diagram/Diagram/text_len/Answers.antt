@@ -12,7 +12,7 @@ loop-block-preserved c =
     let i = c.loop-block.block-index in
     let bs = c.blocks-blocks.ensures in
     let in_all : i < length d.blocks = omega (arith, ap length bs, c.loop-block-test.true) in
-    let line = c.len-total-in-loop-block.ensures.value ∙ ap length c.of-block-line.ensures ∙ ap (λ l. length (block_text (get_or l i blank))) bs in
+    let line = c.len-total-in-loop-block.ensures.value ∙ ap length c.of_block-line.ensures ∙ ap (λ l. length (block_text (get_or l i blank))) bs in
     let on = ap length (front_more d i in_all) ∙ length-append (front d i) (block_text (get_or d.blocks i blank)) in
     (omega (arith, c.loop-block.invariant.0, line, on), omega (arith, c.loop-block.invariant.1, c.len-total-in-loop-block.ensures.bound))
 

@@ -12,9 +12,9 @@ pub returns-then-found-wanted : goal.returns-then-found-wanted
 returns-then-found-wanted c =
     let t = text_of (drawing c.args.self.now) in
     let buf = c.args.buffer.now in
-    let short = lt-leb (length t) (length buf) (omega (arith, c.text-len-wanted.ensures, c.if-found-wanted.true)) in
+    let short = lt-leb (length t) (length buf) (omega (arith, c.text_len-wanted.ensures, c.if-found-wanted.true)) in
     record {
-      answer = ap (λ n. Err (fault ShortBuffer n (length buf))) c.text-len-wanted.ensures ∙ sym (cond-false (leb (length t) (length buf)) (Ok (length t)) (Err (fault ShortBuffer (length t) (length buf))) short);
+      answer = ap (λ n. Err (fault ShortBuffer n (length buf))) c.text_len-wanted.ensures ∙ sym (cond-false (leb (length t) (length buf)) (Ok (length t)) (Err (fault ShortBuffer (length t) (length buf))) short);
       bytes = sym (cond-false (leb (length t) (length buf)) (t ++ drop (length t) buf) buf short);
       read_back = (reads_exactly t).all (drawing c.args.self.now) refl (is_diagram c.args.self.now);
     }
@@ -23,9 +23,9 @@ pub returns : goal.returns
 returns c =
     let t = text_of (drawing c.args.self.now) in
     let buf = c.args.buffer.now in
-    let fits = le-leb (length t) (length buf) (omega (arith, c.text-len-wanted.ensures, c.if-found-wanted.false)) in
+    let fits = le-leb (length t) (length buf) (omega (arith, c.text_len-wanted.ensures, c.if-found-wanted.false)) in
     record {
-      answer = ap Ok c.text-len-wanted.ensures ∙ sym (cond-true (leb (length t) (length buf)) (Ok (length t)) (Err (fault ShortBuffer (length t) (length buf))) fits);
-      bytes = c.copy-text.ensures ∙ sym (cond-true (leb (length t) (length buf)) (t ++ drop (length t) buf) buf fits);
+      answer = ap Ok c.text_len-wanted.ensures ∙ sym (cond-true (leb (length t) (length buf)) (Ok (length t)) (Err (fault ShortBuffer (length t) (length buf))) fits);
+      bytes = c.copy_text.ensures ∙ sym (cond-true (leb (length t) (length buf)) (t ++ drop (length t) buf) buf fits);
       read_back = (reads_exactly t).all (drawing c.args.self.now) refl (is_diagram c.args.self.now);
     }

@@ -7,10 +7,10 @@ pub returns : goal.returns
 returns c =
     let buf = c.args.buffer.now in
     let at = c.args.at in
-    let text = c.as-slice-text.result.now in
-    let same : text ≡ shown c.args.line.now = c.as-slice-text.ensures in
+    let text = c.as_slice-text.result.now in
+    let same : text ≡ shown c.args.line.now = c.as_slice-text.ensures in
     let on : at + ((at + length text) - at) ≡ at + length text = omega arith in
     record {
       value = ap (λ t. at + length t) same;
-      bytes = (λ i. take at buf ++ ((c.copy-from-slice.ensures.after ∙ same) i ++ (drop-drop ((at + length text) - at) at buf ∙ ap (λ n. drop n buf) on) i));
+      bytes = (λ i. take at buf ++ ((c.copy_from_slice.ensures.after ∙ same) i ++ (drop-drop ((at + length text) - at) at buf ∙ ap (λ n. drop n buf) on) i));
     }

@@ -19,7 +19,7 @@ returns c =
     let i = after_commas (in_fields b.inputs) in
     let o = after_commas (out_fields b.outputs) in
     let fits : SFits w32 b.parameter = search rules in
-    let parameter : shown c.integer-field.new.self ≡ shown c.field.new.self ++ z = simp to_z-of_z at c.integer-field.ensures.holds in
+    let parameter : shown c.integer_field.new.self ≡ shown c.field.new.self ++ z = simp to_z-of_z at c.integer_field.ensures.holds in
     let written : shown c.out_fields.new.self ≡ (((codes "block" ++ k) ++ z) ++ i) ++ o =
     c.out_fields.ensures.holds
     ∙ ap (λ t. t ++ o) (c.in_fields.ensures.holds

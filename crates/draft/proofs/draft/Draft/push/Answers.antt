@@ -3,33 +3,24 @@ use Rattle.std.proofs.lemmas.List.{take_more_set, get_or-set_same, get_or-set_ot
 use Rattle.draft.specs.Drawings.{Drawing, InRange, blank}
 use Rattle.draft.proofs.draft.Draft.push.Goals as goal
 
-pub invariant-of-self : goal.invariant-of-self
-invariant-of-self c =
+pub invariant_of-self : goal.invariant_of-self
+invariant_of-self c =
     let d = c.args.self.now in
     let b = c.args.block in
     let inside : d.count < length d.blocks = omega (arith, d.room, c.requires) in
     let here : get_or (set d.blocks d.count b) d.count blank ≡ b = get_or-set_same d.blocks d.count b blank inside in
-    let fits : SFits w32 b.parameter = search rules in (
-      d.few_inputs,
-      (
-        d.inputs_among,
-        (
-          d.few_wires,
-          (
-            omega (arith, c.requires),
-            (
-              length-set d.blocks d.count b ∙ d.room,
-              (
-                below_more (λ k. InRange (get_or (set d.blocks d.count b) k blank)) d.count
-                    (λ k h. subst InRange (sym (get_or-set_other d.blocks d.count k b blank (λ e. omega arith))) (d.in_range k h))
-                    (subst InRange (sym here) (search rules, fits.sfits)),
-                tt,
-              ),
-            ),
-          ),
-        ),
-      ),
-    )
+    let fits : SFits w32 b.parameter = search rules in
+    record {
+      few_inputs = d.few_inputs;
+      inputs_among = d.inputs_among;
+      few_wires = d.few_wires;
+      few_blocks = omega (arith, c.requires);
+      room = length-set d.blocks d.count b ∙ d.room;
+      in_range =
+        below_more (λ k. InRange (get_or (set d.blocks d.count b) k blank)) d.count
+            (λ k h. subst InRange (sym (get_or-set_other d.blocks d.count k b blank (λ e. omega arith))) (d.in_range k h))
+            (subst InRange (sym here) (search rules, fits.sfits));
+    }
 
 pub returns : goal.returns
 returns c =

@@ -12,9 +12,9 @@ loop-wire-init g c = λ plain. record { wrote = writes_in_calls_nil g.W.Write.wr
 pub loop-wire-preserved : goal.loop-wire-preserved
 loop-wire-preserved g c = λ plain.
     let so_far = c.loop-wire.invariant plain in
-    let put = c.in-ok-write-2.ensures.shows so_far.plain refl in
+    let put = c.in_ok-write-2.ensures.writes so_far.plain refl in
     let took = g.W.Write.write_str_gives in
-    let num = g.V-as-Value.numbered in
+    let num = g.V.Value.numbered in
     let ws = c.args.self.now.wires.now in
     let k = c.loop-wire.wire-index in
     let mark = λ (s : Signal g.row.V.Denot). 44 ∷ shown_mark num s in
@@ -26,10 +26,10 @@ loop-wire-preserved g c = λ plain.
 
 pub returns-clause-writes : goal.returns-clause-writes
 returns-clause-writes g c = λ plain _.
-    let put = c.in-ok-write.ensures.shows plain refl in
+    let put = c.in_ok-write.ensures.writes plain refl in
     let rest = c.loop-wire.invariant put.plain in
     let took = g.W.Write.write_str_gives in
-    let num = g.V-as-Value.numbered in
+    let num = g.V.Value.numbered in
     let r = c.args.self.now in
     let ws = r.wires.now in
     let k = c.loop-wire.wire-index in

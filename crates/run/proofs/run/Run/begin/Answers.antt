@@ -12,13 +12,13 @@ use Rattle.run.proofs.Calls.{begin_turned, begin_taken, not_void}
 use Rattle.run.proofs.run.Run.begin.Given.{Over}
 use Rattle.run.proofs.Finished.{finish_begin}
 use Rattle.run.proofs.run.Run.begin.Goals as goal
-use Rattle.run.proofs.run.Run.begin.Goals.{In-ok-admit}
+use Rattle.run.proofs.run.Run.begin.Goals.{In_ok-admit}
 
-pub returns-in-err-admit : goal.returns-in-err-admit
-returns-in-err-admit g c =
-    let p = err_from_is_err_and c.from-residual.result c.from-residual.ensures.1 in
+pub returns-in_err-admit : goal.returns-in_err-admit
+returns-in_err-admit g c =
+    let p = err_from_is_err_and c.from_residual.result c.from_residual.ensures.1 in
     let s = state_of c.args.self.now in
-    let is = begin_turned s c.in-err-admit.field-0.0 (sym c.in-err-admit.ensures) in
+    let is = begin_turned s c.in_err-admit.field-0.0 (sym c.in_err-admit.ensures) in
     let done = finish_begin c.args.self.now is (ap (mapped token_of) (p.1 ∙ ap Err p.2)) refl in
     record {
       answer = done.answer;
@@ -27,13 +27,13 @@ returns-in-err-admit g c =
       stands = done.stands;
     }
 
-taken : (g : Over) (c : In-ok-admit g) → begin (state_of c.args.self.now) ≡ begin_in Resting (state_of c.args.self.now)
-taken g c = begin_taken (state_of c.args.self.now) tt (sym c.in-ok-admit.ensures)
+taken : (g : Over) (c : In_ok-admit g) → begin (state_of c.args.self.now) ≡ begin_in Resting (state_of c.args.self.now)
+taken g c = begin_taken (state_of c.args.self.now) tt (sym c.in_ok-admit.ensures)
 
-pub returns-then-self-ge-MOST-TICKS : goal.returns-then-self-ge-MOST-TICKS
-returns-then-self-ge-MOST-TICKS g c =
+pub returns-then-self-ge-MOST_TICKS : goal.returns-then-self-ge-MOST_TICKS
+returns-then-self-ge-MOST_TICKS g c =
     let s = state_of c.args.self.now in
-    let is = taken g (goal.at.returns-then-self-ge-MOST-TICKS g c).In-ok-admit ∙ cond-true (leb most_ticks s.count) (refused s (fault NoTickLeft 0 0)) (accepted (record { name = s.name; count = s.count + 1 }) (begun s)) (le-leb most_ticks s.count c.if-self-ge-MOST-TICKS.true) in
+    let is = taken g (goal.at.returns-then-self-ge-MOST_TICKS g c).In_ok-admit ∙ cond-true (leb most_ticks s.count) (refused s (fault NoTickLeft 0 0)) (accepted (record { name = s.name; count = s.count + 1 }) (begun s)) (le-leb most_ticks s.count c.if-self-ge-MOST_TICKS.true) in
     let done = finish_begin c.args.self.now is (ap Err c.refusal.ensures) refl in
     record {
       answer = done.answer;
@@ -45,7 +45,7 @@ returns-then-self-ge-MOST-TICKS g c =
 pub returns : goal.returns
 returns g c =
     let s = state_of c.args.self.now in
-    let is = taken g (goal.at.returns g c).In-ok-admit ∙ cond-false (leb most_ticks s.count) (refused s (fault NoTickLeft 0 0)) (accepted (record { name = s.name; count = s.count + 1 }) (begun s)) (lt-leb most_ticks s.count c.if-self-ge-MOST-TICKS.false) in
+    let is = taken g (goal.at.returns g c).In_ok-admit ∙ cond-false (leb most_ticks s.count) (refused s (fault NoTickLeft 0 0)) (accepted (record { name = s.name; count = s.count + 1 }) (begun s)) (lt-leb most_ticks s.count c.if-self-ge-MOST_TICKS.false) in
     let done = finish_begin c.args.self.now is refl (ap (λ ws. record { name = s.name; count = s.count + 1; phase = Open; wires = ws; cells = s.cells }) c.forget.ensures) in
     record {
       answer = done.answer;

@@ -25,10 +25,10 @@ returns-in-Err g c =
       stands = done.stands;
     }
 
-pub returns-then-not-is-of : goal.returns-then-not-is-of
-returns-then-not-is-of g c =
+pub returns-then-not-is_of : goal.returns-then-not-is_of
+returns-then-not-is_of g c =
     let r = c.args.self.now in
-    let is = close_other (state_of r) (drawing_of_run r) (g.K.Kit.meaning c.args.kit.now) (token_of c.args.token) c.args.intent tt (sym c.in-default.ensures) (sym c.is-of.ensures ∙ c.if-not-is-of.true) in
+    let is = close_other (state_of r) (drawing_of_run r) (g.K.Kit.meaning c.args.kit.now) (token_of c.args.token) c.args.intent tt (sym c.in_default.ensures) (sym c.is_of.ensures ∙ c.if-not-is_of.true) in
     let done = finish_close c.args.self.now (g.K.Kit.meaning c.args.kit.now) (g.met.K.Kit.monotone c.args.kit.now) (g.met.K.Kit.bounded c.args.kit.now) (token_of c.args.token) c.args.intent is (ap Err c.refusal.ensures) refl in
     record {
       answer = done.answer;
@@ -41,7 +41,7 @@ returns-then-not-is-of g c =
 pub unwrap-requires : goal.unwrap-requires
 unwrap-requires g c =
     let r = c.args.self.now in
-    let fits = run_fits r (not_void r.phase Close tt (sym c.in-default.ensures)) in
+    let fits = run_fits r (not_void r.phase Close tt (sym c.in_default.ensures)) in
     ap is_ok (c.keep.ensures.answer ∙ ap (λ x. then x (λ _. Ok (kept_answer r.wires.now))) fits)
 
 pub returns-in-Keep : goal.returns-in-Keep
@@ -51,11 +51,11 @@ returns-in-Keep g c =
     let d = drawing_of_run r in
     let m = g.K.Kit.meaning c.args.kit.now in
     let made = c.keep.ensures in
-    let fits = run_fits r (not_void r.phase Close tt (sym c.in-default.ensures)) in
+    let fits = run_fits r (not_void r.phase Close tt (sym c.in_default.ensures)) in
     let told = sym c.unwrap.ensures ∙ made.answer ∙ ap (λ x. then x (λ _. Ok (kept_answer s.wires))) fits in
     let after = made.after ∙ ap (λ x. where_taken x (kept_cells m d s.wires s.cells) s.cells) fits in
     let is =
-    close_own s d m (token_of c.args.token) c.args.intent tt (sym c.in-default.ensures) (sym c.is-of.ensures ∙ c.if-not-is-of.false)
+    close_own s d m (token_of c.args.token) c.args.intent tt (sym c.in_default.ensures) (sym c.is_of.ensures ∙ c.if-not-is_of.false)
     ∙ ap (λ i. closed_by i m d s) c.in-Keep.is
     ∙ closed_keep m d s in
     let done = finish_close c.args.self.now (g.K.Kit.meaning c.args.kit.now) (g.met.K.Kit.monotone c.args.kit.now) (g.met.K.Kit.bounded c.args.kit.now) (token_of c.args.token) c.args.intent is told (λ t. record { name = s.name; count = s.count; phase = Resting; wires = made.wires t; cells = after t }) in
@@ -74,7 +74,7 @@ returns-in-Drop g c =
     let d = drawing_of_run r in
     let m = g.K.Kit.meaning c.args.kit.now in
     let is =
-    close_own s d m (token_of c.args.token) c.args.intent tt (sym c.in-default.ensures) (sym c.is-of.ensures ∙ c.if-not-is-of.false)
+    close_own s d m (token_of c.args.token) c.args.intent tt (sym c.in_default.ensures) (sym c.is_of.ensures ∙ c.if-not-is_of.false)
     ∙ ap (λ i. closed_by i m d s) c.in-Drop.is in
     let done = finish_close c.args.self.now (g.K.Kit.meaning c.args.kit.now) (g.met.K.Kit.monotone c.args.kit.now) (g.met.K.Kit.bounded c.args.kit.now) (token_of c.args.token) c.args.intent is refl refl in
     record {

@@ -16,11 +16,11 @@ use Rattle.run.proofs.Finished.{finish_fire}
 use Rattle.run.proofs.Fitting.{run_fits, fire_apart}
 use Rattle.run.proofs.run.Run.fire.Goals as goal
 
-pub returns-in-err-admit : goal.returns-in-err-admit
-returns-in-err-admit g c =
-    let p = err_from_is_err_and c.from-residual.result c.from-residual.ensures.1 in
+pub returns-in_err-admit : goal.returns-in_err-admit
+returns-in_err-admit g c =
+    let p = err_from_is_err_and c.from_residual.result c.from_residual.ensures.1 in
     let r = c.args.self.now in
-    let is = fire_turned (state_of r) (drawing_of_run r) (g.K.Kit.meaning c.args.kit.now) c.args.block c.in-err-admit.field-0.0 (sym c.in-err-admit.ensures) in
+    let is = fire_turned (state_of r) (drawing_of_run r) (g.K.Kit.meaning c.args.kit.now) c.args.block c.in_err-admit.field-0.0 (sym c.in_err-admit.ensures) in
     let done = finish_fire c.args.self.now (g.K.Kit.meaning c.args.kit.now) (g.met.K.Kit.monotone c.args.kit.now) (g.met.K.Kit.bounded c.args.kit.now) c.args.block is (p.1 ∙ ap Err p.2) refl in
     record {
       answer = done.answer;
@@ -39,7 +39,7 @@ returns g c =
     let after = after_fire m s.wires (block_at d k) (cell_at s.cells k) in
     let past = leb (length d.blocks) k in
     let outside = fault NumberOutside k (length d.blocks) in
-    let taken = sym c.in-ok-admit.ensures in
+    let taken = sym c.in_ok-admit.ensures in
     let at : fitting_at d s.wires s.cells k ≡ cond past (Err outside) (Ok tt) = ap (λ x. then x (λ _. cond past (Err outside) (Ok tt))) (run_fits r (not_void r.phase Fire tt taken)) in
     let made = c.fire.ensures in
     let is = fire_taken s d m k tt taken ∙ fire_apart s past outside (known after - known s.wires) after in

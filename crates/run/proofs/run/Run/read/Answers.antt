@@ -14,25 +14,25 @@ use Rattle.run.specs.Runs.{state_of, drawing_of_run}
 use Rattle.run.proofs.run.Run.read.Given.{Over}
 use Rattle.run.proofs.Finished.{finish_read}
 use Rattle.run.proofs.run.Run.read.Goals as goal
-use Rattle.run.proofs.run.Run.read.Goals.{In-ok-admit}
+use Rattle.run.proofs.run.Run.read.Goals.{In_ok-admit}
 
-pub returns-in-err-admit : goal.returns-in-err-admit
-returns-in-err-admit g c =
-    let p = err_from_is_err_and c.from-residual.result c.from-residual.ensures.1 in
+pub returns-in_err-admit : goal.returns-in_err-admit
+returns-in_err-admit g c =
+    let p = err_from_is_err_and c.from_residual.result c.from_residual.ensures.1 in
     let r = c.args.self.now in
-    let done = finish_read r c.args.wire (read_turned (state_of r) (drawing_of_run r) c.args.wire c.in-err-admit.field-0.0 (sym c.in-err-admit.ensures)) (p.1 ∙ ap Err p.2) in
+    let done = finish_read r c.args.wire (read_turned (state_of r) (drawing_of_run r) c.args.wire c.in_err-admit.field-0.0 (sym c.in_err-admit.ensures)) (p.1 ∙ ap Err p.2) in
     record { answer = done.answer; stands = done.stands }
 
 -- an admitted read
-taken : (g : Over) (c : In-ok-admit g) → read (drawing_of_run c.args.self.now) (state_of c.args.self.now) c.args.wire ≡ read_in Open (drawing_of_run c.args.self.now) (state_of c.args.self.now) c.args.wire
-taken g c = read_taken (state_of c.args.self.now) (drawing_of_run c.args.self.now) c.args.wire tt (sym c.in-ok-admit.ensures)
+taken : (g : Over) (c : In_ok-admit g) → read (drawing_of_run c.args.self.now) (state_of c.args.self.now) c.args.wire ≡ read_in Open (drawing_of_run c.args.self.now) (state_of c.args.self.now) c.args.wire
+taken g c = read_taken (state_of c.args.self.now) (drawing_of_run c.args.self.now) c.args.wire tt (sym c.in_ok-admit.ensures)
 
-fits : (g : Over) (c : In-ok-admit g) → length c.args.self.now.wires.now ≡ (drawing_of_run c.args.self.now).wires
-fits g c = c.args.self.now.wires_fit (not_void c.args.self.now.phase Read tt (sym c.in-ok-admit.ensures))
+fits : (g : Over) (c : In_ok-admit g) → length c.args.self.now.wires.now ≡ (drawing_of_run c.args.self.now).wires
+fits g c = c.args.self.now.wires_fit (not_void c.args.self.now.phase Read tt (sym c.in_ok-admit.ensures))
 
 pub returns-then-wire-wires : goal.returns-then-wire-wires
 returns-then-wire-wires g c =
-    let at_place = (goal.at.returns-then-wire-wires g c).In-ok-admit in
+    let at_place = (goal.at.returns-then-wire-wires g c).In_ok-admit in
     let r = c.args.self.now in
     let d = drawing_of_run r in
     let w = c.args.wire in
@@ -43,7 +43,7 @@ returns-then-wire-wires g c =
 
 pub returns : goal.returns
 returns g c =
-    let at_place = (goal.at.returns g c).In-ok-admit in
+    let at_place = (goal.at.returns g c).In_ok-admit in
     let r = c.args.self.now in
     let d = drawing_of_run r in
     let w = c.args.wire in

@@ -16,13 +16,13 @@ use Rattle.run.proofs.Calls.{supply_turned, supply_taken, not_void}
 use Rattle.run.proofs.run.Run.supply.Given.{Over}
 use Rattle.run.proofs.Finished.{finish_supply}
 use Rattle.run.proofs.run.Run.supply.Goals as goal
-use Rattle.run.proofs.run.Run.supply.Goals.{In-ok-admit, Else-wire-inputs}
+use Rattle.run.proofs.run.Run.supply.Goals.{In_ok-admit, Else-wire-inputs}
 
-pub returns-in-err-admit : goal.returns-in-err-admit
-returns-in-err-admit g c =
-    let p = err_from_is_err_and c.from-residual.result c.from-residual.ensures.1 in
+pub returns-in_err-admit : goal.returns-in_err-admit
+returns-in_err-admit g c =
+    let p = err_from_is_err_and c.from_residual.result c.from_residual.ensures.1 in
     let r = c.args.self.now in
-    let is = supply_turned (state_of r) (drawing_of_run r) c.args.wire c.args.given c.in-err-admit.field-0.0 (sym c.in-err-admit.ensures) in
+    let is = supply_turned (state_of r) (drawing_of_run r) c.args.wire c.args.given c.in_err-admit.field-0.0 (sym c.in_err-admit.ensures) in
     let done = finish_supply c.args.self.now c.args.wire c.args.given is (p.1 ∙ ap Err p.2) refl in
     record {
       answer = done.answer;
@@ -35,24 +35,24 @@ returns-in-err-admit g c =
 within : (g : Over) (c : Else-wire-inputs g) → c.args.wire < length c.args.self.now.wires.now
 within g c =
     let r = c.args.self.now in
-    let long = r.wires_fit (not_void r.phase Supply tt (sym c.in-ok-admit.ensures)) in
+    let long = r.wires_fit (not_void r.phase Supply tt (sym c.in_ok-admit.ensures)) in
     omega (arith, long, c.inputs-inputs.ensures, c.if-wire-inputs.false, r.diagram.now.drawn.inputs_among)
 
-pub offset-bounds-self-wire : goal.offset-bounds-self-wire
-offset-bounds-self-wire g c = let l = within g (goal.at.offset-bounds-self-wire g c).Else-wire-inputs in search rules
+pub offset_bounds-self-wire : goal.offset_bounds-self-wire
+offset_bounds-self-wire g c = let l = within g (goal.at.offset_bounds-self-wire g c).Else-wire-inputs in search rules
 
-pub offset-bounds-self-wire-in-Unknown : goal.offset-bounds-self-wire-in-Unknown
-offset-bounds-self-wire-in-Unknown g c = let l = within g (goal.at.offset-bounds-self-wire-in-Unknown g c).Else-wire-inputs in search rules
+pub offset_bounds-self-wire-in-Unknown : goal.offset_bounds-self-wire-in-Unknown
+offset_bounds-self-wire-in-Unknown g c = let l = within g (goal.at.offset_bounds-self-wire-in-Unknown g c).Else-wire-inputs in search rules
 
-taken : (g : Over) (c : In-ok-admit g) → supply (drawing_of_run c.args.self.now) (state_of c.args.self.now) c.args.wire c.args.given ≡ supply_in Open (drawing_of_run c.args.self.now) (state_of c.args.self.now) c.args.wire c.args.given
-taken g c = supply_taken (state_of c.args.self.now) (drawing_of_run c.args.self.now) c.args.wire c.args.given tt (sym c.in-ok-admit.ensures)
+taken : (g : Over) (c : In_ok-admit g) → supply (drawing_of_run c.args.self.now) (state_of c.args.self.now) c.args.wire c.args.given ≡ supply_in Open (drawing_of_run c.args.self.now) (state_of c.args.self.now) c.args.wire c.args.given
+taken g c = supply_taken (state_of c.args.self.now) (drawing_of_run c.args.self.now) c.args.wire c.args.given tt (sym c.in_ok-admit.ensures)
 
 pub returns-then-wire-inputs : goal.returns-then-wire-inputs
 returns-then-wire-inputs g c =
     let r = c.args.self.now in
     let d = drawing_of_run r in
     let w = c.args.wire in
-    let is = taken g (goal.at.returns-then-wire-inputs g c).In-ok-admit ∙ cond-true (leb d.inputs w) (refused (state_of r) (fault NumberOutside w d.inputs)) (supply_known (at r.wires.now w) (state_of r) w c.args.given) (le-leb d.inputs w (omega (arith, c.inputs-inputs.ensures, c.if-wire-inputs.true))) in
+    let is = taken g (goal.at.returns-then-wire-inputs g c).In_ok-admit ∙ cond-true (leb d.inputs w) (refused (state_of r) (fault NumberOutside w d.inputs)) (supply_known (at r.wires.now w) (state_of r) w c.args.given) (le-leb d.inputs w (omega (arith, c.inputs-inputs.ensures, c.if-wire-inputs.true))) in
     let done = finish_supply c.args.self.now c.args.wire c.args.given is (ap (λ n. Err (fault NumberOutside w n)) c.inputs-inputs.ensures) refl in
     record {
       answer = done.answer;
@@ -67,7 +67,7 @@ looked g c =
     let r = c.args.self.now in
     let d = drawing_of_run r in
     let w = c.args.wire in
-    supply_taken (state_of r) d w c.args.given tt (sym c.in-ok-admit.ensures)
+    supply_taken (state_of r) d w c.args.given tt (sym c.in_ok-admit.ensures)
     ∙ cond-false (leb d.inputs w) (refused (state_of r) (fault NumberOutside w d.inputs)) (supply_known (at r.wires.now w) (state_of r) w c.args.given) (lt-leb d.inputs w (omega (arith, c.inputs-inputs.ensures, c.if-wire-inputs.false)))
 
 pub returns-in-Unknown : goal.returns-in-Unknown
@@ -91,13 +91,13 @@ known_was s w given Unknown h = absurd (h refl)
 known_was s w given Absent h = refl
 known_was s w given (Present v) h = refl
 
-pub returns-in-default : goal.returns-in-default
-returns-in-default g c =
+pub returns-in_default : goal.returns-in_default
+returns-in_default g c =
     let r = c.args.self.now in
     let w = c.args.wire in
-    let place = (goal.at.returns-in-default g c).Else-wire-inputs in
+    let place = (goal.at.returns-in_default g c).Else-wire-inputs in
     let was = get_or_default r.wires.now w Unknown c.index-self-wire.result (within g place) in
-    let is = looked g place ∙ known_was (state_of r) w c.args.given (at r.wires.now w) (λ e. c.in-default.not-Unknown (sym was ∙ e)) in
+    let is = looked g place ∙ known_was (state_of r) w c.args.given (at r.wires.now w) (λ e. c.in_default.not-Unknown (sym was ∙ e)) in
     let done = finish_supply c.args.self.now c.args.wire c.args.given is refl refl in
     record {
       answer = done.answer;

@@ -46,31 +46,31 @@ returns-then-self c =
       moved = record { same_line = refl; same_number = refl; one_taken = omega (arith, f.counted, c.if-self.true) };
     }
 
-pub slice-bounds-rest-count : goal.slice-bounds-rest-count
-slice-bounds-rest-count c = begins_within c.args.self.now c.if-self.false
+pub slice_bounds-rest-count : goal.slice_bounds-rest-count
+slice_bounds-rest-count c = begins_within c.args.self.now c.if-self.false
 
-pub slice-bounds-rest-start : goal.slice-bounds-rest-start
-slice-bounds-rest-start c = begins_within c.args.self.now c.if-self.false
+pub slice_bounds-rest-start : goal.slice_bounds-rest-start
+slice_bounds-rest-start c = begins_within c.args.self.now c.if-self.false
 
-after : (c : goal.After-bytes-before-n) → Next c.args.self.now c.bytes-before-n.result
-after c = next c.args.self.now c.bytes-before-n.result c.if-self.false c.bytes-before-n.ensures.value
+after : (c : goal.After-bytes_before-n) → Next c.args.self.now c.bytes_before-n.result
+after c = next c.args.self.now c.bytes_before-n.result c.if-self.false c.bytes_before-n.ensures.value
 
-pub overflow-add-self : goal.overflow-add-self
-overflow-add-self c = let n = after c in let s = c.args.self.now.short in omega arith
+pub overflow_add-self : goal.overflow_add-self
+overflow_add-self c = let n = after c in let s = c.args.self.now.short in omega arith
 
-pub overflow-add-self-2 : goal.overflow-add-self-2
-overflow-add-self-2 c = let n = after c in let s = c.args.self.now.short in omega arith
+pub overflow_add-self-2 : goal.overflow_add-self-2
+overflow_add-self-2 c = let n = after c in let s = c.args.self.now.short in omega arith
 
-pub invariant-of-self : goal.invariant-of-self
-invariant-of-self c = let f = c.args.self.now in (f.short, (f.counted, (omega (arith, f.within, c.if-self.false), ((after c).on, tt))))
+pub invariant_of-self : goal.invariant_of-self
+invariant_of-self c = let f = c.args.self.now in record { short = f.short; counted = f.counted; within = omega (arith, f.within, c.if-self.false); here = (after c).on }
 
-pub slice-bounds-result-end-2 : goal.slice-bounds-result-end-2
-slice-bounds-result-end-2 c = (next c.args.self.now c.bytes-before-n.result c.if-self.false c.bytes-before-n.ensures.value).ends
+pub slice_bounds-result-end-2 : goal.slice_bounds-result-end-2
+slice_bounds-result-end-2 c = (next c.args.self.now c.bytes_before-n.result c.if-self.false c.bytes_before-n.ensures.value).ends
 
 pub returns : goal.returns
 returns c =
     let f = c.args.self.now in
     record {
-      value = (next f c.bytes-before-n.result c.if-self.false c.bytes-before-n.ensures.value).is;
+      value = (next f c.bytes_before-n.result c.if-self.false c.bytes_before-n.ensures.value).is;
       moved = record { same_line = refl; same_number = refl; one_taken = omega (arith, f.counted, f.within, c.if-self.false) };
     }

@@ -15,19 +15,19 @@ drop_within : (n : ℕ) (xs : List ℕ) → drop (min n (length xs)) xs ≡ drop
 drop_within n xs =
     ⊎_elim (λ l. ap (λ k. drop k xs) (omega arith)) (λ l. ap (λ k. drop k xs) (omega arith) ∙ drop_all (length xs) xs (omega arith) ∙ sym (drop_all n xs l)) (cases_lt n (length xs))
 
-pub overflow-sub-result : goal.overflow-sub-result
-overflow-sub-result c = omega (arith, c.count-pieces.ensures, some_piece 10 (take (c.min-at.result - 0) c.args.text.now))
+pub overflow_sub-result : goal.overflow_sub-result
+overflow_sub-result c = omega (arith, c.count_pieces.ensures, some_piece 10 (take (c.min-at.result - 0) c.args.text.now))
 
-pub invariant-of-result : goal.invariant-of-result
-invariant-of-result c =
+pub invariant_of-result : goal.invariant_of-result
+invariant_of-result c =
     let text = c.args.text.now in
     let n = c.min-at.result in
     let within : n ≤ length text = omega (arith, c.min-at.ensures) in
     let front : length (take (n - 0) text) ≡ n = ap (λ k. length (take k text)) (omega arith) ∙ length-take-le n text within in
     let few = few_pieces 10 (take (n - 0) text) in
     let left : length (take (length text - n) (drop n text)) ≡ length text - n = ap length (take_rest text n) ∙ length-drop n text in
-    let enough = c.count-pieces.ensures in
-    (omega arith, tt)
+    let enough = c.count_pieces.ensures in
+    record { room = omega arith }
 
 pub returns : goal.returns
 returns c =
@@ -36,5 +36,5 @@ returns c =
     let n = c.min-at.result in
     record {
       same_rest = take_rest text n ∙ ap (λ k. drop k text) c.min-at.ensures ∙ drop_within at text;
-      same_taken = ap (λ k. k - 1) c.count-pieces.ensures ∙ ap (λ xs. length (pieces 10 xs) - 1) (ap (λ k. take k text) (omega (arith, c.min-at.ensures)) ∙ take_within at text);
+      same_taken = ap (λ k. k - 1) c.count_pieces.ensures ∙ ap (λ xs. length (pieces 10 xs) - 1) (ap (λ k. take k text) (omega (arith, c.min-at.ensures)) ∙ take_within at text);
     }

@@ -16,14 +16,14 @@ cut_at xs n e h =
 pub returns-then-n-text : goal.returns-then-n-text
 returns-then-n-text c =
     let l = c.args.self.now in
-    (cut_none 10 l.rest.now (omega (arith, c.bytes-before-n.ensures.value, c.if-n-text.true)), refl, record { same_rest = refl; same_taken = refl })
+    (cut_none 10 l.rest.now (omega (arith, c.bytes_before-n.ensures.value, c.if-n-text.true)), refl, record { same_rest = refl; same_taken = refl })
 
-pub invariant-of-self : goal.invariant-of-self
-invariant-of-self c =
+pub invariant_of-self : goal.invariant_of-self
+invariant_of-self c =
     let xs = c.args.self.now.rest.now in
-    let n = c.bytes-before-n.result in
+    let n = c.bytes_before-n.result in
     let left : length (take (length xs - (n + 1)) (drop (n + 1) xs)) ≡ length xs - (n + 1) = ap length (take_rest xs (n + 1)) ∙ length-drop (n + 1) xs in
-    (omega (arith, c.args.self.now.room, c.bytes-before-n.ensures.within, c.if-n-text.false), tt)
+    record { room = omega (arith, c.args.self.now.room, c.bytes_before-n.ensures.within, c.if-n-text.false) }
 
 pub returns : goal.returns
-returns c = (cut_at _ _ c.bytes-before-n.ensures.value (omega (arith, c.bytes-before-n.ensures.within, c.if-n-text.false)), refl)
+returns c = (cut_at _ _ c.bytes_before-n.ensures.value (omega (arith, c.bytes_before-n.ensures.within, c.if-n-text.false)), refl)
