@@ -1,8 +1,6 @@
 // What the kits of the benches answer to a question that stands in words: the bench's kit, the question and the kind,
 // then the question's further arguments.
-use crate::parts::parted;
 use crate::rival::Rival;
-use crate::value::{Value, cell_in_words, in_numbers, read_value, signal_in_words};
 use kit::joined::Joined;
 use kit::question::{Kit, Ports};
 use kit::signal::{Cell, Inputs, Signal};
@@ -10,12 +8,47 @@ use kits::bench_kits::{number_bench_kit, switch_bench_kit};
 use kits::number::NumberKit;
 use std::alloc::{AllocError, Global};
 
+// A value as it stands in the table: a number as itself, no as 0 and yes as 1.
+trait Value: Copy {
+    fn of(number: i32) -> Option<Self>;
+
+    fn number(self) -> i32;
+}
+
+impl Value for i32 {
+    fn of(number: i32) -> Option<i32> {
+        Some(number)
+    }
+
+    fn number(self) -> i32 {
+        self
+    }
+}
+
+impl Value for bool {
+    fn of(number: i32) -> Option<bool> {
+        match number {
+            0 => Some(false),
+            1 => Some(true),
+            _ => None,
+        }
+    }
+
+    fn number(self) -> i32 {
+        if self { 1 } else { 0 }
+    }
+}
+
 // What the four questions answer; start and next alike give a cell.
 #[derive(Drop)]
 enum Reply<V> {
     Counts(Ports),
     State(Cell<V>),
     Output(Signal<V>),
+}
+
+fn read_value<V: Value>(word: &str) -> Option<V> {
+    V::of(word.parse::<i32>().ok()?)
 }
 
 fn read_cell<V: Value>(word: &str) -> Option<Cell<V>> {
@@ -99,14 +132,22 @@ fn in_words<V: Value>(heap: Global, reply: Option<Reply<V>>) -> Result<String, A
             let outputs = ports.outputs;
             format!(in heap; "{inputs},{outputs}")
         }
-        Some(Reply::State(cell)) => cell_in_words(heap, cell),
-        Some(Reply::Output(signal)) => signal_in_words(heap, in_numbers(signal)),
+        Some(Reply::State(Cell::Holds(v))) | Some(Reply::Output(Signal::Present(v))) => {
+            let number = v.number();
+            format!(in heap; "{number}")
+        }
+        Some(Reply::State(Cell::Empty)) => String::from_str(heap, "-"),
+        Some(Reply::Output(Signal::Unknown)) => String::from_str(heap, "?"),
+        Some(Reply::Output(Signal::Absent)) => String::from_str(heap, "."),
         None => String::from_str(heap, "ill-formed question"),
     }
 }
 
 pub(crate) fn answer(heap: Global, question: &str) -> Result<String, AllocError> {
-    let words = parted(heap, question, ' ')?;
+    let mut words = Vec::new(heap);
+    for word in question.split(' ') {
+        words.push(word)?;
+    }
     match words.as_slice() {
         ["number", rest @ ..] => in_words(heap, ask::<i32, _>(&number_bench_kit(), rest)),
         ["number-rival", rest @ ..] => in_words(

@@ -1,27 +1,16 @@
 // Runs the table of cases on standard input against the libraries, and prints each case that went otherwise than
-// its line says. A line has what is tried, a name, what is expected, and what it is tried on, parted by tabs: `read` a
-// diagram's text, `ask` a kit a question, `play` calls on a run, `offer` runs each other's tokens, or play a `list` on a bench.
+// its line says. A line has what is tried, a name, what is expected, and what is tried it on, parted by tabs: `read` a
+// diagram's text, or `ask` a kit a question.
 #![tactic(auto)]
 
 mod asking;
 mod escaped;
-mod lending;
-mod listing;
-mod offering;
-mod parts;
-mod playing;
 mod reading;
 mod rival;
-mod script;
-mod staging;
-mod telling;
-mod value;
 
 use asking::answer;
 use escaped::unescaped;
-use listing::listed;
 use reading::outcome;
-use staging::staged;
 use std::alloc::{AllocError, Global};
 use std::io::{BufRead, BufReader};
 
@@ -32,8 +21,6 @@ fn tried(heap: Global, what: &str, on: &str) -> Result<String, AllocError> {
             outcome(heap, text.as_slice())
         }
         "ask" => answer(heap, on),
-        "list" => listed(heap, on),
-        "play" | "offer" => staged(heap, what, on),
         _ => String::from_str(heap, "nothing to try"),
     }
 }

@@ -1,5 +1,5 @@
 -- Tables of the right lengths.
-use Rattle.std.proofs.Common.{◌≡◌, ℕ, cond, eqb, length, Ok, Err, Result, sym, refl, ap, ◌∙◌, ⊎_elim}
+use Rattle.std.proofs.Common.{◌≡◌, ℕ, true, false, cond, eqb, length, Ok, Err, Result, sym, refl, ap, ◌∙◌, ⊎_elim}
 use Rattle.std.proofs.lemmas.Bool.{cond-true, cond-false, cases_eq, eq-eqb, ne_eqb}
 use Rattle.text.specs.declared.fault.Cause.TheVariants.{TableLength}
 use Rattle.text.specs.declared.fault.Fault.{Fault}
@@ -34,8 +34,15 @@ module _ (d : Drawing) (wires cells : ℕ) where
   -- what new takes has them too
   module _ {V : Type 0} (m : Meaning V) where
     pub checked_so : check_new m d wires cells ≡ then (lengths_fit d wires cells) (λ _. kinds_fit m 0 d.blocks)
-    unfolding check_new
-    checked_so = refl
+    unfolding check_new lengths_fit
+    checked_so =
+        let kinds = kinds_fit m 0 d.blocks in
+        let few = fault TableLength (length d.blocks) cells in
+        let short = fault TableLength d.wires wires in
+        elim (eqb wires d.wires) as (λ t. cond t (cond (eqb cells (length d.blocks)) kinds (Err few)) (Err short) ≡ then (cond t (cond (eqb cells (length d.blocks)) (Ok (tt {0})) (Err few)) (Err short)) (λ _. kinds)) [
+          | true ↦ elim (eqb cells (length d.blocks)) as (λ t. cond t kinds (Err few) ≡ then (cond t (Ok (tt {0})) (Err few)) (λ _. kinds)) [ true ↦ refl | false ↦ refl ]
+          | false ↦ refl
+        ]
 
     pub lengths_taken : (u : Unit {0}) → check_new m d wires cells ≡ Ok u → lengths_fit d wires cells ≡ Ok tt
     lengths_taken u h = (then_ok (lengths_fit d wires cells) (λ _. kinds_fit m 0 d.blocks) u (sym checked_so ∙ h)).1

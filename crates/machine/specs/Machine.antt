@@ -67,7 +67,10 @@ lengths_fit d wires cells =
 
 -- the check: the wire table's length, the cell table's, then each block
 unfoldable pub check_new : {V : Type 0} → Meaning V → Drawing → ℕ → ℕ → Result (Unit {0}) Fault
-check_new m d wires cells = then (lengths_fit d wires cells) (λ _. kinds_fit m 0 d.blocks)
+check_new m d wires cells =
+    cond (wires == d.wires)
+    (cond (cells == length d.blocks) (kinds_fit m 0 d.blocks) (Err (fault TableLength (length d.blocks) cells)))
+    (Err (fault TableLength d.wires wires))
 
 -- the first cells
 abbrev pub starts : {V : Type 0} → Meaning V → List Block → List (Cell V)

@@ -6,7 +6,7 @@ use machine::answers::Phase;
 use text::fault::{Cause, Fault};
 
 #[derive(Clone, Copy)]
-pub(crate) enum Call {
+pub enum Call {
     Begin,
     Supply,
     Fire,

@@ -4,7 +4,8 @@ use Rattle.kit.specs.declared.signal.Signal.{Signal}
 use Rattle.kit.specs.declared.signal.Cell.{Cell}
 use Rattle.draft.specs.Drawings.{Drawing}
 use Rattle.machine.proofs.Lengths.{wires_right, cells_right, both_agree}
-use Rattle.tables.specs.Fitting.{Fit, fitting}
+use Rattle.tables.specs.Fitting.{fitting}
+use Rattle.tables.specs.InPlace.{Fit}
 
 module _ {V : Type 0} (d : Drawing) (wires : List (Signal V)) (cells : List (Cell V)) where
   pub fit_taken : (u : Unit {0}) → fitting d wires cells ≡ Ok u → Fit d wires cells

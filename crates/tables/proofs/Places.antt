@@ -10,6 +10,7 @@ use Rattle.diagram.specs.Marks.{Below}
 use Rattle.diagram.specs.Wiring.{ins, outs, times}
 use Rattle.diagram.proofs.WiringLaws.{times_append, first_counts}
 use Rattle.machine.proofs.Drives.{one_among}
+use Rattle.tables.specs.InPlace.{InPlace}
 
 below_from : (n : ℕ) (ws : List ℕ) → ((w : ℕ) → n ≤ w → times w ws ≡ 0) → Below n ws
 below_from n [] h = tt
@@ -19,5 +20,5 @@ each_below : (f : Block → List ℕ) (n k : ℕ) (bs : List Block) → ((w : �
 each_below f n k bs none l = below_from n (f (get_or bs k blank)) (λ w g. omega (arith, one_among f w k bs l, none w g))
 
 -- every port of every block names one of the diagram's wires
-pub in_place : (d : Diagram) (k : ℕ) → k < length (drawing d).blocks → Below (drawing d).wires (ins (get_or (drawing d).blocks k blank).inputs) × Below (drawing d).wires (outs (get_or (drawing d).blocks k blank).outputs)
+pub in_place : (d : Diagram) → InPlace (drawing d).wires (drawing d).blocks
 in_place d k l = (each_below (λ b. ins b.inputs) (drawing d).wires k (drawing d).blocks d.reads_below l, each_below (λ b. outs b.outputs) (drawing d).wires k (drawing d).blocks d.drives_within.1 l)

@@ -1,4 +1,4 @@
--- Tables that fit a diagram.
+-- Whether tables fit a diagram.
 use Rattle.std.specs.Prelude.{◌≡◌, ℕ, cond, List, length, Ok, Err, Result, nat_le}
 use Rattle.text.specs.declared.fault.Cause.TheVariants.{NumberOutside}
 use Rattle.text.specs.declared.fault.Fault.{Fault}
@@ -7,11 +7,6 @@ use Rattle.kit.specs.declared.signal.Signal.{Signal}
 use Rattle.kit.specs.declared.signal.Cell.{Cell}
 use Rattle.draft.specs.Drawings.{Drawing}
 use Rattle.machine.specs.Machine.{lengths_fit}
-
--- a wire for each of the diagram's, and a cell for each block
-pub record Fit {V : Type 0} (d : Drawing) (wires : List (Signal V)) (cells : List (Cell V)) : Type 0 where
-  pub wires_fit : length wires ≡ d.wires
-  pub cells_fit : length cells ≡ length d.blocks
 
 -- whether the tables fit, by their lengths
 abbrev pub fitting : {V : Type 0} → Drawing → List (Signal V) → List (Cell V) → Result (Unit {0}) Fault

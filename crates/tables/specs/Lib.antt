@@ -1,3 +1,4 @@
 pub mod Closings
 pub mod Fitting
+pub mod InPlace
 pub mod Knowing

@@ -7,7 +7,8 @@ ghost use Rattle.diagram.specs.Wiring.{ins};
 ghost use Rattle.machine.specs.Tables.{next_cell};
 ghost use Rattle.machine.specs.Machine.{lowest_unknown, next_cells};
 ghost use Rattle.tables.specs.Closings.{kept_answer, kept_cells};
-ghost use Rattle.tables.specs.Fitting.{Fit, fitting, where_taken};
+ghost use Rattle.tables.specs.Fitting.{fitting, where_taken};
+ghost use Rattle.tables.specs.InPlace.{Fit};
 
 use crate::firing::inputs_of;
 use crate::lengths::check_lengths;

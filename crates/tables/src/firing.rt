@@ -6,7 +6,8 @@ ghost use Rattle.diagram.specs.Marks.{Below};
 ghost use Rattle.diagram.specs.Wiring.{ins, outs};
 ghost use Rattle.machine.specs.Firing.{put as put_in, after_fire, round};
 ghost use Rattle.machine.specs.Tables.{block_at, cell_at, known, reads};
-ghost use Rattle.tables.specs.Fitting.{Fit, fitting_at, where_taken};
+ghost use Rattle.tables.specs.Fitting.{fitting_at, where_taken};
+ghost use Rattle.tables.specs.InPlace.{Fit};
 ghost use Rattle.tables.specs.Knowing.{known_at, all_known};
 
 use crate::lengths::check_lengths;

@@ -4,7 +4,8 @@ ghost use Rattle.text.specs.Results.{then};
 ghost use Rattle.diagram.specs.Diagrams.{drawing};
 ghost use Rattle.machine.specs.Settling.{settled, settle_answer};
 ghost use Rattle.machine.specs.Tables.{known};
-ghost use Rattle.tables.specs.Fitting.{Fit, fitting, where_taken};
+ghost use Rattle.tables.specs.Fitting.{fitting, where_taken};
+ghost use Rattle.tables.specs.InPlace.{Fit};
 
 use crate::firing::fire_round;
 use crate::lengths::check_lengths;

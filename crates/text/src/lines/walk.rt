@@ -52,8 +52,8 @@ impl<'a> Lines<'a> {
     pub fn next_is(&self, word: &[u8]) -> bool
         ensures { result ≡ first_is word.now (next_piece self.now) }
     {
-        let text = self.rest;
-        let line = &text[0..bytes_before(text, b'\n')];
+        let rest = self.rest;
+        let line = &rest[0..bytes_before(rest, b'\n')];
         let field = &line[0..bytes_before(line, b',')];
         field == word
     }
