@@ -1,5 +1,5 @@
 -- A list, from its diagram to its run.
-use Rattle.std.proofs.Common.{◌≡◌, ℕ, List, length, ℤ, Ok, Err, Option, Result, sym, refl, ap, ◌∙◌}
+use Rattle.std.proofs.Common.{◌≡◌, ℕ, List, length, ℤ, Ok, Err, Option, sym, ap, ◌∙◌}
 use Rattle.std.proofs.lemmas.List.{length-replicate}
 use Rattle.text.specs.declared.fault.Fault.{Fault}
 use Rattle.kit.specs.declared.signal.Signal.{Signal}
@@ -8,8 +8,8 @@ use Rattle.kit.specs.declared.signal.Cell.{Cell}
 use Rattle.kit.specs.declared.signal.Cell.TheVariants.{Empty}
 use Rattle.kit.specs.Meaning.{Meaning}
 use Rattle.draft.specs.Drawings.{Drawing}
-use Rattle.machine.specs.Machine.{State, check_new, made_from}
-use Rattle.bench.specs.Lists.{Listed, refused_by, made, run_of, ticks_of, lent_wires, lent_cells, drawn, opened, listed, cut_at, first_tick, tick_lines}
+use Rattle.machine.specs.Machine.{check_new, made_from}
+use Rattle.bench.specs.Lists.{refused_by, made, run_of, ticks_of, lent_wires, lent_cells, drawn, opened, listed, cut_at, first_tick, tick_lines}
 
 module _ {V : Type 0} (valued : ℤ → Option V) (m : Meaning V) where
   module _ (d : Drawing) (k : ℕ) (lines : List (List ℕ)) (wires : List (Signal V)) (cells : List (Cell V)) (w : length wires ≡ d.wires) (c : length cells ≡ length d.blocks) where

@@ -1,5 +1,5 @@
 -- A list, line by line.
-use Rattle.std.proofs.Common.{◌≡◌, ℕ, suc, ◌+◌, ◌<◌, cond, eqb, ◌⊎◌, List, [], ◌∷◌, ◌++◌, length, ℤ, Ok, Err, Option, Result, sym, refl, ap, ◌∙◌, inl, inr, arith}
+use Rattle.std.proofs.Common.{◌≡◌, ℕ, ◌+◌, ◌<◌, eqb, List, [], ◌∷◌, ◌++◌, length, ℤ, Ok, Err, Option, Result, sym, refl, ap, ◌∙◌, inl, inr, arith}
 use Rattle.std.specs.List.{flat_map}
 use Rattle.std.proofs.lemmas.List.{append_assoc}
 use Rattle.std.proofs.lemmas.Bool.{cond-false, ne_eqb}
@@ -7,17 +7,15 @@ use Rattle.text.specs.declared.fault.Cause.TheVariants.{FieldCount}
 use Rattle.text.specs.declared.fault.Fault.{Fault}
 use Rattle.text.specs.declared.lines.Lines.{Lines}
 use Rattle.text.specs.LineWalk.{lines_left}
-use Rattle.text.specs.Pieces.{pieces}
 use Rattle.text.specs.Results.{fault}
 use Rattle.text.proofs.Cuts.{some_piece}
 use Rattle.text.proofs.ResultLaws.{never_ok, same_err}
-use Rattle.kit.specs.declared.signal.Signal.{Signal}
 use Rattle.kit.specs.Meaning.{Meaning}
 use Rattle.draft.specs.Drawings.{Drawing}
 use Rattle.machine.specs.Machine.{State}
 use Rattle.tick.specs.declared.played.Played.{Played}
 use Rattle.bench.specs.Lists.{Listed, Shown, shows, ends, refused_by, after_tick, line_played, ticks_of, shown_line, refusal_line, printed}
-use Rattle.bench.specs.Steps.{Taken, Cut, NextTick}
+use Rattle.bench.specs.Steps.{Taken, NextTick}
 use Rattle.bench.proofs.Cutting.{line_length}
 
 -- what a tick shows comes before what follows

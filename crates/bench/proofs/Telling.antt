@@ -1,15 +1,13 @@
 -- Every list tells least solutions.
-use Rattle.std.proofs.Common.{◌≡◌, ℕ, zero, suc, ◌+◌, Bool, true, false, cond, eqb, leb, List, [], ◌∷◌, length, take, ℤ, Ok, Err, codes, Option, Result, sym, refl, ap, ◌∙◌, subst, arith}
+use Rattle.std.proofs.Common.{◌≡◌, ℕ, zero, suc, ◌+◌, Bool, true, false, cond, eqb, leb, List, [], ◌∷◌, length, take, ℤ, Ok, Err, codes, Option, Result, sym, refl, ap, ◌∙◌, subst}
 use Rattle.std.proofs.lemmas.List.{length-replicate}
 use Rattle.text.specs.declared.fault.Cause.TheVariants.{FieldCount, LongInput}
 use Rattle.text.specs.declared.fault.Fault.{Fault}
 use Rattle.text.specs.Pieces.{fields_of, field}
-use Rattle.text.specs.Results.{then, mapped, placed, fault}
+use Rattle.text.specs.Results.{mapped, placed, fault}
 use Rattle.text.specs.Walk.{word_in}
-use Rattle.text.proofs.ResultLaws.{never_ok, same_ok, then_ok, mapped_ok, passed}
-use Rattle.kit.specs.declared.signal.Signal.{Signal}
+use Rattle.text.proofs.ResultLaws.{same_ok, then_ok, mapped_ok, passed}
 use Rattle.kit.specs.declared.signal.Signal.TheVariants.{Unknown}
-use Rattle.kit.specs.declared.signal.Cell.{Cell}
 use Rattle.kit.specs.Meaning.{Meaning, Lawful}
 use Rattle.draft.specs.Drawings.{Drawing}
 use Rattle.diagram.specs.Reading.{IsDiagram, read_of}
@@ -21,8 +19,8 @@ use Rattle.machine.proofs.Standing.{length_starts}
 use Rattle.profile.specs.Opening.{most_bytes}
 use Rattle.tick.specs.declared.played.Played.{Played}
 use Rattle.tick.specs.Ticks.{played}
-use Rattle.tick.proofs.Solving.{Left, played_left}
-use Rattle.bench.specs.Lists.{Listed, Shown, ends, refused_by, shows, supplied_tick, after_tick, ticks_of, lent_wires, lent_cells, made, run_of, drawn, opened, listed, cut_at, first_tick, tick_lines}
+use Rattle.tick.proofs.Solving.{played_left}
+use Rattle.bench.specs.Lists.{ends, refused_by, supplied_tick, after_tick, ticks_of, lent_wires, lent_cells, made, run_of, drawn, opened, listed, cut_at, first_tick, tick_lines}
 use Rattle.bench.specs.Telling.{Tells, TellsLeast}
 use Rattle.bench.specs.TickLines.{tick_line, inputs_in}
 

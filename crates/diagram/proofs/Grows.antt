@@ -1,7 +1,6 @@
 -- A line grows piece by piece.
 use Rattle.std.proofs.Common.{◌≡◌, ℕ, ◌+◌, ◌≤◌, List, [], ◌∷◌, ◌++◌, sym, refl, ap, ◌∙◌, append_assoc, append-nil, arith}
 use Rattle.diagram.specs.declared.line.Line.{Line}
-use Rattle.std.specs.List.{flat_map}
 use Rattle.text.specs.Pieces.{parted_by}
 use Rattle.diagram.specs.Lines.{shown, Grown, after_commas}
 

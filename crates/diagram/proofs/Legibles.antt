@@ -1,5 +1,5 @@
 -- Every diagram's text is read back as that diagram: what its type carries suffices.
-use Rattle.std.proofs.Common.{◌≡◌, ℕ, zero, suc, ◌+◌, ◌<◌, ◌≤◌, List, [], ◌∷◌, ◌++◌, length, get_or, take, sym, refl, ap, ◌∙◌, subst, ⊎_elim, arith}
+use Rattle.std.proofs.Common.{◌≡◌, ℕ, suc, ◌<◌, ◌≤◌, List, [], ◌∷◌, length, get_or, take, sym, subst, ⊎_elim, arith}
 use Rattle.std.specs.List.{flat_map}
 use Rattle.std.proofs.lemmas.List.{length-take-le, get_or-take}
 use Rattle.std.proofs.lemmas.Bool.{cases_lt}
@@ -8,15 +8,13 @@ use Rattle.draft.specs.declared.block.InPorts.{InPorts}
 use Rattle.draft.specs.declared.block.InPorts.TheVariants.{Zero, One as OneIn, Two as TwoIn, Three}
 use Rattle.draft.specs.declared.block.OutPorts.{OutPorts}
 use Rattle.draft.specs.declared.block.OutPorts.TheVariants.{One as OneOut, Two as TwoOut}
-use Rattle.draft.specs.declared.draft.Draft.{Draft}
-use Rattle.draft.specs.Drafts.{drawing_of}
-use Rattle.draft.specs.Drawings.{Drawing, blank, InRange}
-use Rattle.draft.specs.Limits.{last_wire, most_wires}
-use Rattle.draft.specs.Text.{Legible, AllLegible, Drawable, InsLegible, OutsLegible}
+use Rattle.draft.specs.Drawings.{blank, InRange}
+use Rattle.draft.specs.Limits.{last_wire}
+use Rattle.draft.specs.Text.{AllLegible, InsLegible, OutsLegible}
 use Rattle.diagram.specs.declared.diagram.Diagram.{Diagram}
 use Rattle.diagram.specs.Diagrams.{drawing}
 use Rattle.diagram.specs.Reading.{IsDiagram}
-use Rattle.diagram.specs.Wiring.{ins, outs, times, readers, drivers, Wired}
+use Rattle.diagram.specs.Wiring.{ins, outs, times, readers, drivers}
 use Rattle.diagram.proofs.WiringLaws.{times_append, first_counts}
 
 -- no wire past the last stands in the list

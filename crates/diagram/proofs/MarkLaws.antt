@@ -1,5 +1,5 @@
 -- What marks and answers say together.
-use Rattle.std.proofs.Common.{◌≡◌, ℕ, suc, ◌+◌, ◌-◌, ◌<◌, ◌≤◌, Bool, true, false, cond, not, eqb, List, [], ◌∷◌, Ok, Err, Result, sym, refl, ap, ◌∙◌, subst, arith}
+use Rattle.std.proofs.Common.{◌≡◌, ℕ, suc, ◌+◌, ◌-◌, ◌<◌, Bool, cond, eqb, List, Ok, Err, Result, sym, refl, ap, arith}
 use Rattle.text.specs.declared.fault.Cause.TheVariants.{NotDriven}
 use Rattle.text.specs.declared.fault.Fault.{Fault}
 use Rattle.text.specs.Results.{fault}

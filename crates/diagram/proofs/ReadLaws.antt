@@ -1,14 +1,14 @@
 -- Reading is the inverse of writing.
-use Rattle.std.proofs.Common.{◌≡◌, ℕ, List, Ok, Err, Result, sym, refl, ap, ◌∙◌, subst}
+use Rattle.std.proofs.Common.{◌≡◌, ℕ, List, Ok, Result, ap, ◌∙◌, subst}
 use Rattle.text.specs.declared.fault.Fault.{Fault}
 use Rattle.text.specs.Results.{then}
 use Rattle.text.proofs.ResultLaws.{same_ok, then_ok}
 use Rattle.draft.specs.Drawings.{Drawing}
 use Rattle.draft.specs.Reading.{draft_of}
-use Rattle.draft.specs.Text.{text_of, Drawable}
+use Rattle.draft.specs.Text.{text_of}
 use Rattle.draft.proofs.TextLaws.{draft_only, draft_all}
 use Rattle.diagram.specs.Reading.{checked, read_of, IsDiagram, ReadsExactly}
-use Rattle.diagram.specs.Wiring.{Wired, wiring_of}
+use Rattle.diagram.specs.Wiring.{wiring_of}
 use Rattle.diagram.proofs.WiringLaws.{wired_only, wired_all}
 
 pub read_from : (text : List ℕ) (r : Result Drawing Fault) → draft_of text ≡ r → read_of text ≡ then r checked

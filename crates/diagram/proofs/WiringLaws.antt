@@ -1,16 +1,14 @@
 -- A drawing passes the checks of its wiring exactly when it is wired.
-use Rattle.std.proofs.Common.{◌≡◌, ℕ, zero, suc, ◌+◌, ◌-◌, ◌<◌, ◌≤◌, Bool, true, false, cond, ◌&&◌, eqb, ltb, leb, List, [], ◌∷◌, ◌++◌, length, get_or, Ok, Err, Result, sym, refl, ap, ◌∙◌, subst, ⊎_elim, arith}
+use Rattle.std.proofs.Common.{◌≡◌, ℕ, zero, suc, ◌+◌, ◌-◌, ◌<◌, ◌≤◌, true, false, cond, ◌&&◌, eqb, ltb, leb, List, [], ◌∷◌, ◌++◌, length, get_or, Ok, Err, sym, refl, ap, ◌∙◌, ⊎_elim, arith}
 use Rattle.std.specs.List.{flat_map}
 use Rattle.std.proofs.lemmas.Bool.{and_parts, and_from, leb-true, ltb-true, le-leb, lt-ltb, eqb-true, eqb-false, eq-eqb, ne_eqb, cond-true, cond-false, cases_eq, cases_lt}
 use Rattle.text.specs.declared.fault.Cause.TheVariants.{PortOutside, DrivenTwice, NotDriven}
-use Rattle.text.specs.declared.fault.Fault.{Fault}
 use Rattle.text.specs.Results.{then, fault}
-use Rattle.text.proofs.ResultLaws.{same_ok, never_ok, then_ok, passed, missed}
+use Rattle.text.proofs.ResultLaws.{same_ok, then_ok, passed, missed}
 use Rattle.draft.specs.declared.block.Block.{Block}
-use Rattle.draft.specs.declared.block.OutPorts.{OutPorts}
 use Rattle.draft.specs.Drawings.{Drawing, blank}
 use Rattle.diagram.specs.Marks.{Below}
-use Rattle.diagram.specs.Wiring.{ins, outs, times, readers, drivers, ReadsBelow, DrivesWithin, DrivenOnce, Wired, each_within, block_within, ports_within, driven_by, driven_in, all_driven, wiring_of}
+use Rattle.diagram.specs.Wiring.{ins, outs, times, readers, drivers, Wired, each_within, block_within, ports_within, driven_by, driven_in, all_driven, wiring_of}
 
 pub times_append : (w : ℕ) (xs ys : List ℕ) → times w (xs ++ ys) ≡ times w xs + times w ys
 times_append w [] ys = omega arith

@@ -1,5 +1,5 @@
 -- The wiring of a drawing: which wires its ports read and drive, and the fault of a drawing that is not wired.
-use Rattle.std.specs.Prelude.{◌≡◌, ℕ, zero, suc, ◌+◌, ◌-◌, ◌<◌, ◌≤◌, Bool, cond, ◌&&◌, List, [], ◌∷◌, length, Ok, Err, Result, ◌==◌, nat_le, nat_lt}
+use Rattle.std.specs.Prelude.{◌≡◌, ℕ, zero, suc, ◌+◌, ◌-◌, ◌<◌, ◌≤◌, cond, ◌&&◌, List, [], ◌∷◌, length, Ok, Err, Result, ◌==◌, nat_le, nat_lt}
 use Rattle.std.specs.List.{flat_map}
 use Rattle.text.specs.declared.fault.Cause.TheVariants.{PortOutside, DrivenTwice, NotDriven}
 use Rattle.text.specs.declared.fault.Fault.{Fault}

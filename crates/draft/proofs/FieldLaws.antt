@@ -1,6 +1,5 @@
 -- Each field of a line is read as what it writes, and as nothing else.
-use Rattle.std.proofs.Common.{◌≡◌, ℕ, ◌+◌, ◌^◌, ◌<◌, ◌≤◌, Bool, true, false, cond, eqb, leb, List, [], ◌∷◌, ◌++◌, length, get_or, Some, None, Ok, Err, codes, decimal, Option, Result, sym, refl, ap, ◌∙◌, subst, ⊎_elim, arith}
-use Rattle.std.specs.Fmt.{signed_decimal}
+use Rattle.std.proofs.Common.{◌≡◌, ℕ, ◌^◌, ◌<◌, ◌≤◌, cond, eqb, leb, List, [], ◌∷◌, length, get_or, Some, None, Ok, Err, decimal, Option, Result, sym, refl, ap, ◌∙◌, subst, ⊎_elim, arith}
 use Rattle.std.specs.Str.{bytes_eq}
 use Rattle.std.proofs.lemmas.Fmt.{decimal_nonempty}
 use Rattle.std.proofs.lemmas.Slice.Eq.{bytes_eq-Decides}
@@ -9,17 +8,17 @@ use Rattle.std.proofs.lemmas.Bool.{eqb-true, ne_eqb, cond-true, cond-false, case
 use Rattle.text.specs.declared.fault.Cause.{Cause}
 use Rattle.text.specs.declared.fault.Cause.TheVariants.{Form, Range}
 use Rattle.text.specs.declared.fault.Fault.{Fault}
-use Rattle.text.specs.Numerals.{number_in, integer_in}
+use Rattle.text.specs.Numerals.{number_in}
 use Rattle.text.specs.Pieces.{field}
 use Rattle.text.specs.Results.{then, mapped, placed}
 use Rattle.text.specs.Walk.{word_in, empty_in}
-use Rattle.text.proofs.NumberLaws.{number_only, number_all, integer_only, integer_all}
-use Rattle.text.proofs.ResultLaws.{same_ok, never_ok, then_ok, mapped_ok, placed_ok, passed}
+use Rattle.text.proofs.NumberLaws.{number_only, number_all}
+use Rattle.text.proofs.ResultLaws.{same_ok, then_ok, mapped_ok, placed_ok, passed}
 use Rattle.draft.specs.declared.block.InPorts.{InPorts}
 use Rattle.draft.specs.declared.block.InPorts.TheVariants.{Zero, One as OneIn, Two as TwoIn, Three}
 use Rattle.draft.specs.declared.block.OutPorts.{OutPorts}
 use Rattle.draft.specs.declared.block.OutPorts.TheVariants.{One as OneOut, Two as TwoOut}
-use Rattle.draft.specs.Limits.{most_inputs, most_wires, last_wire, last_kind}
+use Rattle.draft.specs.Limits.{last_wire, last_kind}
 use Rattle.draft.specs.Lines.{kind_in, wire_in, port_in, third_input, second_input, no_input, in_ports, out_ports, size_in}
 use Rattle.draft.specs.Text.{in_fields, out_fields, InsLegible, OutsLegible}
 

@@ -1,5 +1,5 @@
 -- How a reading goes on from line to line, and what holds of what it accepted.
-use Rattle.std.proofs.Common.{◌≡◌, ℕ, ◌+◌, ◌^◌, ◌<◌, ◌≤◌, Bool, true, false, cond, eqb, leb, List, [], ◌∷◌, ◌++◌, length, Ok, Err, codes, Result, sym, refl, ap, ◌∙◌, arith}
+use Rattle.std.proofs.Common.{◌≡◌, ℕ, ◌+◌, ◌^◌, ◌<◌, ◌≤◌, eqb, leb, List, [], ◌∷◌, ◌++◌, length, Ok, Err, codes, Result, refl, ap, ◌∙◌, arith}
 use Rattle.std.proofs.lemmas.Bool.{leb-true, leb-false, cond-false, ne_eqb}
 use Rattle.text.specs.declared.fault.Cause.TheVariants.{Range, FieldCount, TooManyBlocks}
 use Rattle.text.specs.declared.fault.Fault.{Fault}
@@ -12,7 +12,7 @@ use Rattle.text.proofs.ResultLaws.{same_ok, then_ok, then_then, placed_ok, passe
 use Rattle.draft.specs.declared.block.Block.{Block}
 use Rattle.draft.specs.Drawings.{Drawing}
 use Rattle.draft.specs.Limits.{most_inputs, most_wires, most_blocks}
-use Rattle.draft.specs.Lines.{block_of, block_line, size_in, sizes_of, diagram_line}
+use Rattle.draft.specs.Lines.{block_line, size_in, sizes_of, diagram_line}
 use Rattle.draft.specs.Reading.{blocks_of, drawing_in}
 
 -- a line, when others or the rest follow

@@ -1,17 +1,16 @@
 -- A text is read as a drawing exactly when it is that drawing's text.
-use Rattle.std.proofs.Common.{◌≡◌, ℕ, zero, suc, ◌+◌, ◌^◌, ◌<◌, ◌≤◌, Bool, true, false, cond, eqb, leb, List, [], ◌∷◌, ◌++◌, map, length, get_or, drop, ℤ, pos, negsuc, Ok, Err, codes, decimal, Result, sym, refl, ap, ◌∙◌, subst, append_assoc, append-nil, add-zero, add-one, arith, drop-cons}
+use Rattle.std.proofs.Common.{◌≡◌, ℕ, zero, suc, ◌+◌, ◌^◌, ◌<◌, ◌≤◌, cond, eqb, leb, List, [], ◌∷◌, ◌++◌, map, length, get_or, drop, ℤ, pos, negsuc, Ok, Err, codes, decimal, sym, refl, ap, ◌∙◌, subst, append_assoc, append-nil, arith, drop-cons}
 use lib.Signed.{mag}
 use Rattle.std.specs.List.{flat_map}
 use Rattle.std.specs.Fmt.{signed_decimal}
 use Rattle.std.proofs.lemmas.List.{drop_all, length-append, length_push, nil_from_length}
 use Rattle.std.proofs.lemmas.Bool.{cond-true, cond-false, eqb-true, eq-eqb, lt-leb}
 use Rattle.text.specs.declared.fault.Cause.TheVariants.{FieldCount, TooManyBlocks}
-use Rattle.text.specs.declared.fault.Fault.{Fault}
 use Rattle.text.specs.Numerals.{integer_in}
 use Rattle.text.specs.Pieces.{pieces, parted_by, fields_of, field}
 use Rattle.text.specs.Results.{then, placed, fault}
 use Rattle.text.specs.Walk.{word_in}
-use Rattle.text.proofs.Cuts.{Lacks, AllLack, joined_again, cut_again, piece_before, lacks_cons, lacks_parted, lacks_digits, all_lack_append, some_piece}
+use Rattle.text.proofs.Cuts.{Lacks, AllLack, joined_again, cut_again, piece_before, lacks_cons, lacks_parted, lacks_digits, all_lack_append}
 use Rattle.text.proofs.NumberLaws.{decimal_digits, integer_only, integer_all}
 use Rattle.text.proofs.ResultLaws.{same_ok, never_ok, then_ok, placed_ok, passed, missed}
 use Rattle.draft.specs.declared.block.Block.{Block}
@@ -20,7 +19,7 @@ use Rattle.draft.specs.declared.block.InPorts.TheVariants.{Zero, One as OneIn, T
 use Rattle.draft.specs.declared.block.OutPorts.{OutPorts}
 use Rattle.draft.specs.declared.block.OutPorts.TheVariants.{One as OneOut, Two as TwoOut}
 use Rattle.draft.specs.Drawings.{Drawing}
-use Rattle.draft.specs.Limits.{most_inputs, most_wires, last_wire, most_blocks, last_kind}
+use Rattle.draft.specs.Limits.{most_inputs, most_wires, most_blocks}
 use Rattle.draft.specs.Lines.{kind_in, in_ports, out_ports, block_of, block_line, size_in, sizes_of, diagram_line}
 use Rattle.draft.specs.Reading.{blocks_of, drawing_in, draft_of}
 use Rattle.draft.specs.Text.{in_fields, out_fields, block_fields, diagram_fields, line_of, block_text, text_of, Legible, AllLegible, Drawable, InsLegible, OutsLegible}

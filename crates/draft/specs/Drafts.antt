@@ -1,5 +1,5 @@
 -- A draft as the drawing that it holds.
-use Rattle.std.specs.Prelude.{List, [], ◌∷◌, ◌++◌, take}
+use Rattle.std.specs.Prelude.{[], ◌∷◌, ◌++◌, take}
 use Rattle.draft.specs.declared.block.Block.{Block}
 use Rattle.draft.specs.declared.draft.Draft.{Draft}
 use Rattle.draft.specs.Drawings.{Drawing}

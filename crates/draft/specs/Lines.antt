@@ -1,5 +1,5 @@
 -- What a line of a diagram's text draws, or the fault that refuses it. Fields count from 1, the word included.
-use Rattle.std.specs.Prelude.{ℕ, cond, List, [], ◌∷◌, length, Some, None, Ok, Err, codes, Option, Result, ◌==◌, nat_le}
+use Rattle.std.specs.Prelude.{ℕ, cond, List, length, Some, None, Ok, Err, codes, Option, Result, ◌==◌, nat_le}
 use Rattle.text.specs.declared.fault.Cause.{Cause}
 use Rattle.text.specs.declared.fault.Cause.TheVariants.{Range, FieldCount, TooManyBlocks}
 use Rattle.text.specs.declared.fault.Fault.{Fault}

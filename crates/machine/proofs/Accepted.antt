@@ -1,6 +1,6 @@
 -- What an accepted call found, and what it left.
-use Rattle.std.proofs.Common.{◌≡◌, ℕ, zero, suc, ◌+◌, ◌<◌, ◌≤◌, Bool, true, false, cond, ◌&&◌, eqb, leb, ◌⊎◌, List, [], ◌∷◌, length, set, replicate, Ok, Err, Result, sym, refl, ap, ◌∙◌, inl, inr, ⊎_elim, arith}
-use Rattle.std.proofs.lemmas.Bool.{cases_Bool, leb-false, eqb-true, eqb-false}
+use Rattle.std.proofs.Common.{◌≡◌, ℕ, ◌+◌, ◌<◌, Bool, true, false, cond, ◌&&◌, eqb, leb, ◌⊎◌, length, set, Ok, Result, sym, refl, inl, inr}
+use Rattle.std.proofs.lemmas.Bool.{leb-false, eqb-true, eqb-false}
 use Rattle.text.specs.declared.fault.Cause.TheVariants.{NoTickLeft, NumberOutside, WrongToken}
 use Rattle.text.specs.declared.fault.Fault.{Fault}
 use Rattle.text.specs.Results.{fault}
@@ -17,7 +17,7 @@ use Rattle.machine.specs.declared.answers.Settled.{Settled}
 use Rattle.machine.specs.declared.answers.Closed.{Closed}
 use Rattle.machine.specs.declared.answers.Closed.TheVariants.{Kept, Undetermined}
 use Rattle.machine.specs.Machine.{State, Token, Outcome, most_ticks, refused, accepted, begun, begin, begin_in, supply, supply_in, supply_known, with_wires, signal_of, settle, settle_in, close, close_in, closed_by, resting_with, lowest_unknown, next_cells}
-use Rattle.machine.specs.Settling.{settled, settle_answer}
+use Rattle.machine.specs.Settling.{settled}
 use Rattle.machine.specs.Tables.{at}
 
 module _ {V : Type 0} where

@@ -1,24 +1,24 @@
 -- What firing keeps: the wires hold what is supplied, are supported by their blocks, and lie below every solution.
-use Rattle.std.proofs.Common.{◌≡◌, ℕ, zero, suc, ◌+◌, ◌-◌, ◌<◌, ◌≤◌, ◌≢◌, List, [], ◌∷◌, length, get_or, set, replicate, sym, refl, ap, ◌∙◌, subst, ⊎_elim, add-zero, add-suc, zero-add, arith}
+use Rattle.std.proofs.Common.{◌≡◌, ℕ, zero, suc, ◌+◌, ◌-◌, ◌<◌, ◌≤◌, ◌≢◌, List, length, set, replicate, sym, ap, ◌∙◌, subst, ⊎_elim, add-zero, add-suc, zero-add, arith}
 use Rattle.std.proofs.lemmas.List.{length-set, length-replicate, get_or-set_same, get_or-set_other, get_or-replicate, get_or_past}
 use Rattle.std.proofs.lemmas.Bool.{cases_eq, cases_lt}
 use Rattle.kit.specs.declared.signal.Signal.{Signal}
-use Rattle.kit.specs.declared.signal.Signal.TheVariants.{Unknown, Absent, Present}
+use Rattle.kit.specs.declared.signal.Signal.TheVariants.{Unknown}
 use Rattle.kit.specs.declared.signal.Cell.{Cell}
 use Rattle.kit.specs.Meaning.{Meaning, Lawful}
 use Rattle.kit.specs.Order.{◌⊑◌}
-use Rattle.kit.proofs.AtMost.{at_most_refl, at_most_equal, at_most_trans}
+use Rattle.kit.proofs.AtMost.{at_most_equal, at_most_trans}
 use Rattle.draft.specs.declared.block.Block.{Block}
 use Rattle.draft.specs.declared.block.OutPorts.{OutPorts}
 use Rattle.draft.specs.declared.block.OutPorts.TheVariants.{One as OneOut, Two as TwoOut}
 use Rattle.draft.specs.Drawings.{Drawing}
 use Rattle.diagram.specs.Reading.{IsDiagram}
 use Rattle.diagram.specs.Wiring.{outs, times}
-use Rattle.machine.specs.Firing.{takes, put, put_outs, after_fire, fired, round}
+use Rattle.machine.specs.Firing.{put, put_outs, after_fire, fired, round}
 use Rattle.machine.specs.Solutions.{EachOutput, Solution, Least}
-use Rattle.machine.specs.Tables.{at, cell_at, block_at, known, answer}
-use Rattle.machine.proofs.Drives.{Drives, drives_within, drives_alone, drives_once, each_map, each_both, length_outs, other_wires, own_wires}
-use Rattle.machine.proofs.Rows.{◌≼◌, rows_refl, rows_trans, rows_antisym, reads_rise, takes_rises, takes_below, takes_same, put_rises, put_below, put_itself, same_known}
+use Rattle.machine.specs.Tables.{at, cell_at, block_at, answer}
+use Rattle.machine.proofs.Drives.{drives_within, drives_alone, drives_once, each_map, each_both, length_outs, other_wires, own_wires}
+use Rattle.machine.proofs.Rows.{◌≼◌, rows_refl, rows_trans, rows_antisym, reads_rise, takes_below, takes_same, put_rises, put_below, put_itself}
 
 -- at least what is supplied, and at least what the blocks answer on it: every solution is so
 pub record Above {V : Type 0} (m : Meaning V) (d : Drawing) (cells : List (Cell V)) (inputs t : List (Signal V)) : Type 0 where

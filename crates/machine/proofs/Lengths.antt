@@ -1,8 +1,7 @@
 -- Tables of the right lengths.
-use Rattle.std.proofs.Common.{◌≡◌, ℕ, true, false, cond, eqb, length, Ok, Err, Result, sym, refl, ap, ◌∙◌, ⊎_elim}
+use Rattle.std.proofs.Common.{◌≡◌, ℕ, true, false, cond, eqb, length, Ok, Err, sym, refl, ◌∙◌, ⊎_elim}
 use Rattle.std.proofs.lemmas.Bool.{cond-true, cond-false, cases_eq, eq-eqb, ne_eqb}
 use Rattle.text.specs.declared.fault.Cause.TheVariants.{TableLength}
-use Rattle.text.specs.declared.fault.Fault.{Fault}
 use Rattle.text.specs.Results.{then, fault}
 use Rattle.text.proofs.ResultLaws.{never_ok, then_ok}
 use Rattle.kit.specs.Meaning.{Meaning}

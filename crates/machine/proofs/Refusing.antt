@@ -1,5 +1,5 @@
 -- A refused call changes nothing.
-use Rattle.std.proofs.Common.{◌≡◌, ℕ, Bool, true, false, cond, leb, Ok, Err, Result, sym, refl, ap}
+use Rattle.std.proofs.Common.{ℕ, Bool, true, false, cond, leb, Result, sym, refl}
 use Rattle.text.specs.declared.fault.Cause.TheVariants.{NumberOutside}
 use Rattle.text.specs.declared.fault.Fault.{Fault}
 use Rattle.text.specs.Results.{fault}

@@ -1,5 +1,5 @@
 -- Every log stands.
-use Rattle.std.proofs.Common.{◌≡◌, ℕ, suc, ◌+◌, ◌-◌, ◌<◌, ◌≤◌, Bool, true, List, [], ◌∷◌, ◌++◌, length, get_or, take, replicate, Ok, Err, Result, sym, refl, ap, ◌∙◌, subst, ⊎_elim, arith}
+use Rattle.std.proofs.Common.{◌≡◌, ℕ, suc, ◌-◌, ◌<◌, ◌≤◌, List, [], ◌∷◌, ◌++◌, length, take, replicate, Ok, Result, sym, refl, ap, ◌∙◌, subst, ⊎_elim, arith}
 use Rattle.std.proofs.lemmas.List.{length-replicate, length-append, length-take-le, get_or-take, get_or_append_left, get_or-append_right, get_or_past}
 use Rattle.std.proofs.lemmas.Bool.{false≢true, cases_lt}
 use Rattle.text.specs.declared.fault.Fault.{Fault}
@@ -10,7 +10,6 @@ use Rattle.kit.specs.Meaning.{Meaning, Lawful}
 use Rattle.draft.specs.declared.block.Block.{Block}
 use Rattle.draft.specs.Drawings.{Drawing}
 use Rattle.diagram.specs.Reading.{IsDiagram}
-use Rattle.machine.specs.declared.answers.Phase.TheVariants.{Resting, Void}
 use Rattle.machine.specs.Logs.{Entry, Led, nothing_yet, begin_next, supply_next, fire_next, settle_next, read_next, close_next, Stands, replay_new, EveryLogStands}
 use Rattle.machine.specs.Machine.{State, check_new, made_from, new_state, starts, begin, supply, fire, settle, read, close}
 use Rattle.kit.specs.Order.{◌⊑◌}

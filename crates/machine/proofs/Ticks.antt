@@ -1,5 +1,5 @@
 -- A tick's token, from begin to close.
-use Rattle.std.proofs.Common.{◌≡◌, ℕ, ◌+◌, ◌-◌, Bool, true, false, cond, ◌&&◌, eqb, leb, List, length, set, is_ok, Ok, Err, Result, sym, refl, ap, ◌∙◌, subst}
+use Rattle.std.proofs.Common.{◌≡◌, ℕ, ◌+◌, ◌-◌, Bool, true, false, cond, ◌&&◌, eqb, leb, List, length, set, is_ok, Ok, Result, sym, refl, ap, ◌∙◌}
 use Rattle.std.proofs.lemmas.Bool.{cond-true, and_from, eq-eqb}
 use Rattle.text.specs.declared.fault.Cause.TheVariants.{NoTickLeft, NumberOutside, WrongToken}
 use Rattle.text.specs.declared.fault.Fault.{Fault}

@@ -13,7 +13,7 @@ use Rattle.machine.specs.declared.answers.Intent.{Intent}
 use Rattle.machine.specs.declared.answers.Settled.{Settled}
 use Rattle.machine.specs.declared.answers.Closed.{Closed}
 use Rattle.machine.specs.declared.answers.Closed.TheVariants.{Kept, Undetermined, Dropped}
-use Rattle.machine.specs.Machine.{State, Token, Outcome, check_new, new_state, starts, begin, supply, fire, settle, read, close, signal_of}
+use Rattle.machine.specs.Machine.{State, Token, check_new, new_state, starts, begin, supply, fire, settle, read, close, signal_of}
 use Rattle.machine.specs.Solutions.{Least, OneLeast}
 use Rattle.machine.specs.Tables.{at, cell_at, block_at, next_cell}
 

@@ -1,8 +1,8 @@
 -- The machine: a run's state, and for each call its answer and the state after it, refused or not.
-use Rattle.std.specs.Prelude.{◌≡◌, ℕ, zero, suc, ◌+◌, ◌-◌, Bool, cond, ◌&&◌, List, [], ◌∷◌, length, replicate, Ok, Err, Result, ◌==◌, nat_le, slice_set}
+use Rattle.std.specs.Prelude.{◌≡◌, ℕ, suc, ◌+◌, ◌-◌, Bool, cond, ◌&&◌, List, [], ◌∷◌, length, replicate, Ok, Err, Result, ◌==◌, nat_le, slice_set}
 use Rattle.text.specs.declared.fault.Cause.TheVariants.{KitDiffers, TableLength, NoTickOpen, TickOpen, NoTickLeft, NumberOutside, AlreadyKnown, WrongToken}
 use Rattle.text.specs.declared.fault.Fault.{Fault}
-use Rattle.text.specs.Results.{then, fault}
+use Rattle.text.specs.Results.{fault}
 use Rattle.kit.specs.declared.question.Ports.{Ports}
 use Rattle.kit.specs.declared.signal.Signal.{Signal}
 use Rattle.kit.specs.declared.signal.Signal.TheVariants.{Unknown, Absent, Present}

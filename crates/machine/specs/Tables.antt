@@ -3,7 +3,7 @@ use Rattle.std.specs.Prelude.{ℕ, ◌+◌, List, [], ◌∷◌, slice_index_or}
 use Rattle.kit.specs.declared.signal.Signal.{Signal}
 use Rattle.kit.specs.declared.signal.Signal.TheVariants.{Unknown, Absent, Present}
 use Rattle.kit.specs.declared.signal.Cell.{Cell}
-use Rattle.kit.specs.declared.signal.Cell.TheVariants.{Empty, Holds}
+use Rattle.kit.specs.declared.signal.Cell.TheVariants.{Empty}
 use Rattle.kit.specs.declared.signal.Inputs.{Inputs}
 use Rattle.kit.specs.Meaning.{Meaning}
 use Rattle.draft.specs.declared.block.Block.{Block}

@@ -1,5 +1,5 @@
 -- What a field supplies, test by test.
-use Rattle.std.proofs.Common.{◌≡◌, ℕ, true, false, cond, List, ℤ, Some, None, Ok, Err, codes, Option, Result, sym, refl, ap, ◌∙◌}
+use Rattle.std.proofs.Common.{◌≡◌, ℕ, true, false, cond, List, ℤ, Some, None, Ok, codes, Option, Result, ap, ◌∙◌}
 use Rattle.std.specs.Str.{bytes_eq}
 use Rattle.std.proofs.lemmas.Bool.{cond-true, cond-false}
 use Rattle.text.specs.declared.fault.Cause.{Cause}

@@ -1,5 +1,5 @@
 -- The values of the switch bench: 0 is no and 1 is yes.
-use Rattle.std.specs.Prelude.{ℕ, zero, suc, Bool, true, false, cond, ℤ, pos, negsuc, Some, None, Option, ◌==◌}
+use Rattle.std.specs.Prelude.{Bool, true, false, cond, ℤ, pos, negsuc, Some, None, Option, ◌==◌}
 
 abbrev pub switched : ℤ → Option Bool
 switched (pos n) = cond (n == 0) (Some false) (cond (n == 1) (Some true) None)

@@ -1,18 +1,17 @@
 -- The machine's calls by what the phase takes.
-use Rattle.std.proofs.Common.{◌≡◌, ℕ, Bool, true, false, cond, ◌&&◌, eqb, Ok, Err, Result, sym, refl, ap, ◌∙◌, subst}
+use Rattle.std.proofs.Common.{◌≡◌, ℕ, true, false, ◌&&◌, eqb, Ok, Err, sym, refl, ap, ◌∙◌}
 use Rattle.std.proofs.lemmas.Bool.{cond-true, cond-false}
-use Rattle.text.specs.declared.fault.Cause.TheVariants.{NumberOutside, NoTickLeft, NoTickOpen, TickOpen, WrongToken}
+use Rattle.text.specs.declared.fault.Cause.TheVariants.{WrongToken}
 use Rattle.text.specs.declared.fault.Fault.{Fault}
 use Rattle.text.specs.Results.{fault}
 use Rattle.text.proofs.ResultLaws.{never_ok, same_err}
-use Rattle.kit.specs.declared.signal.Signal.{Signal}
 use Rattle.kit.specs.Meaning.{Meaning}
 use Rattle.draft.specs.Drawings.{Drawing}
 use Rattle.machine.specs.declared.answers.Phase.{Phase}
 use Rattle.machine.specs.declared.answers.Phase.TheVariants.{Resting, Open, Void}
 use Rattle.machine.specs.declared.answers.Given.{Given}
 use Rattle.machine.specs.declared.answers.Intent.{Intent}
-use Rattle.machine.specs.Machine.{State, Token, Outcome, refused, accepted, begin, begin_in, supply, supply_in, fire, fire_in, settle, settle_in, read, read_in, close, close_in, closed_by}
+use Rattle.machine.specs.Machine.{State, Token, refused, begin, begin_in, supply, supply_in, fire, fire_in, settle, settle_in, read, read_in, close, close_in, closed_by}
 use Rattle.run.specs.declared.admission.Call.{Call}
 use Rattle.run.specs.declared.admission.Call.TheVariants.{Begin, Supply, Fire, Settle, Read, Close}
 use Rattle.run.specs.Phases.{is_void, admitted}

@@ -1,7 +1,7 @@
 // The steps of a script. A number that is missing or ill-formed is 0, and then the case goes otherwise than expected.
 use crate::words::read_value;
-use marks::value::Value;
 use machine::answers::{Given, Intent};
+use marks::value::Value;
 
 // A call that neither opens nor closes a tick.
 #[derive(Drop)]

@@ -2,9 +2,9 @@
 use crate::offering::offered;
 use crate::parts::parted;
 use crate::playing::played;
-use marks::value::Value;
 use kit::question::Kit;
 use kits::bench_kits::{number_bench_kit, switch_bench_kit};
+use marks::value::Value;
 use std::alloc::{AllocError, Global};
 
 fn staged_on<V: Value, K: Kit<V>>(

@@ -1,19 +1,13 @@
 -- The lowest unknown wire, and cells that move one by one.
-use Rattle.std.proofs.Common.{◌≡◌, ℕ, zero, suc, ◌+◌, ◌<◌, ◌≤◌, Bool, true, false, cond, eqb, List, [], ◌∷◌, length, get_or, take, set, Result, sym, refl, ap, ◌∙◌, arith}
-use Rattle.text.specs.declared.fault.Fault.{Fault}
+use Rattle.std.proofs.Common.{◌≡◌, ℕ, zero, suc, ◌<◌, List, [], ◌∷◌, length, get_or, take, set, refl, ap, arith}
 use Rattle.kit.specs.declared.signal.Signal.{Signal}
 use Rattle.kit.specs.declared.signal.Signal.TheVariants.{Unknown, Absent, Present}
 use Rattle.kit.specs.declared.signal.Cell.{Cell}
-use Rattle.kit.specs.declared.signal.Cell.TheVariants.{Empty}
 use Rattle.kit.specs.Meaning.{Meaning}
 use Rattle.draft.specs.declared.block.Block.{Block}
-use Rattle.draft.specs.Drawings.{Drawing, blank}
-use Rattle.machine.specs.declared.answers.Closed.{Closed}
-use Rattle.machine.specs.declared.answers.Closed.TheVariants.{Kept, Undetermined}
-use Rattle.machine.specs.declared.answers.Intent.TheVariants.{Keep}
-use Rattle.machine.specs.Machine.{State, Outcome, accepted, closed_by, resting_with, lowest_unknown, next_cells}
+use Rattle.draft.specs.Drawings.{blank}
+use Rattle.machine.specs.Machine.{lowest_unknown, next_cells}
 use Rattle.machine.specs.Tables.{cell_at, next_cell}
-use Rattle.tables.specs.Closings.{kept_answer, kept_cells}
 
 -- a known first wire is passed over
 pub passed_over : {V : Type 0} (s : Signal V) (ws : List (Signal V)) → (s ≡ Unknown → ⊥) → lowest_unknown (s ∷ ws) ≡ suc (lowest_unknown ws)

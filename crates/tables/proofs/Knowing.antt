@@ -1,5 +1,5 @@
 -- A firing whose outputs are known changes nothing.
-use Rattle.std.proofs.Common.{◌≡◌, ℕ, true, List, set, sym, refl, ap, ◌∙◌}
+use Rattle.std.proofs.Common.{◌≡◌, ℕ, true, List, set, refl, ap, ◌∙◌}
 use Rattle.std.proofs.lemmas.List.{set-get_or}
 use Rattle.std.proofs.lemmas.Bool.{and_parts, false≢true}
 use Rattle.kit.specs.declared.signal.Signal.{Signal}

@@ -1,14 +1,14 @@
 -- Every port of a diagram's block names one of its wires.
-use Rattle.std.proofs.Common.{◌≡◌, ℕ, zero, suc, ◌+◌, ◌<◌, ◌≤◌, List, [], ◌∷◌, length, get_or, sym, refl, ap, ◌∙◌, subst, ⊎_elim, arith}
+use Rattle.std.proofs.Common.{◌≡◌, ℕ, ◌<◌, ◌≤◌, List, [], ◌∷◌, length, get_or, ⊎_elim, arith}
 use Rattle.std.specs.List.{flat_map}
 use Rattle.std.proofs.lemmas.Bool.{cases_lt}
 use Rattle.draft.specs.declared.block.Block.{Block}
-use Rattle.draft.specs.Drawings.{Drawing, blank}
+use Rattle.draft.specs.Drawings.{blank}
 use Rattle.diagram.specs.declared.diagram.Diagram.{Diagram}
 use Rattle.diagram.specs.Diagrams.{drawing}
 use Rattle.diagram.specs.Marks.{Below}
 use Rattle.diagram.specs.Wiring.{ins, outs, times}
-use Rattle.diagram.proofs.WiringLaws.{times_append, first_counts}
+use Rattle.diagram.proofs.WiringLaws.{first_counts}
 use Rattle.machine.proofs.Drives.{one_among}
 use Rattle.tables.specs.InPlace.{InPlace}
 

@@ -1,5 +1,5 @@
 -- What a close that keeps answers, and the cells after it.
-use Rattle.std.specs.Prelude.{ℕ, cond, List, length, ◌==◌}
+use Rattle.std.specs.Prelude.{cond, List, length, ◌==◌}
 use Rattle.kit.specs.declared.signal.Signal.{Signal}
 use Rattle.kit.specs.declared.signal.Cell.{Cell}
 use Rattle.kit.specs.Meaning.{Meaning}

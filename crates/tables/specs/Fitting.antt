@@ -1,5 +1,5 @@
 -- Whether tables fit a diagram.
-use Rattle.std.specs.Prelude.{◌≡◌, ℕ, cond, List, length, Ok, Err, Result, nat_le}
+use Rattle.std.specs.Prelude.{ℕ, cond, List, length, Ok, Err, Result, nat_le}
 use Rattle.text.specs.declared.fault.Cause.TheVariants.{NumberOutside}
 use Rattle.text.specs.declared.fault.Fault.{Fault}
 use Rattle.text.specs.Results.{then, fault}

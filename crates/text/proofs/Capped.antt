@@ -1,6 +1,6 @@
 -- A number that is read digit by digit and cut off at a cap comes out as the whole number cut off.
-use Rattle.std.proofs.Common.{◌≡◌, ℕ, ◌+◌, ◌*◌, ◌<◌, ◌≤◌, min, List, [], ◌∷◌, sym, refl, ap, ◌∙◌, arith}
-use Rattle.std.specs.Str.Parse.{digits_value, digits_value_after}
+use Rattle.std.proofs.Common.{◌≡◌, ℕ, ◌+◌, ◌*◌, min, List, [], ◌∷◌, sym, ap, ◌∙◌, arith}
+use Rattle.std.specs.Str.Parse.{digits_value_after}
 use Rattle.std.specs.Char.{digit_value}
 
 capped_step : (m d c : ℕ) → min (min m c * 10 + d) c ≡ min (m * 10 + d) c

@@ -1,8 +1,7 @@
 -- What a reading that was accepted went through.
-use Rattle.std.proofs.Common.{◌≡◌, ℕ, Bool, true, false, cond, Ok, Err, Result, sym, refl, ap, ◌∙◌, arith}
+use Rattle.std.proofs.Common.{◌≡◌, ℕ, Bool, true, false, cond, Ok, Err, Result, refl, ap, arith}
 use Rattle.text.specs.declared.fault.Cause.{Cause}
-use Rattle.text.specs.declared.fault.Fault.{Fault}
-use Rattle.text.specs.Results.{then, mapped, placed, fault}
+use Rattle.text.specs.Results.{then, mapped, placed}
 
 pub never_ok : {A E P : Type 0} {e : E} {x : A} → Err e ≡ Ok x → P
 never_ok {A} {E} {P} {e} {x} h = let z : ◌≡◌ {A = ℕ} 0 1 = cc in absurd (omega arith)

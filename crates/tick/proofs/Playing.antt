@@ -1,5 +1,5 @@
 -- A tick, call by call.
-use Rattle.std.proofs.Common.{◌≡◌, true, List, is_ok, Ok, Err, Option, Result, sym, refl, ap, ◌∙◌}
+use Rattle.std.proofs.Common.{◌≡◌, true, List, is_ok, Ok, Err, Option, Result, sym, ap, ◌∙◌}
 use Rattle.text.specs.declared.fault.Fault.{Fault}
 use Rattle.text.specs.Results.{then, mapped}
 use Rattle.kit.specs.Meaning.{Meaning}
@@ -11,8 +11,7 @@ use Rattle.machine.specs.declared.answers.Settled.{Settled}
 use Rattle.machine.specs.declared.answers.Closed.{Closed}
 use Rattle.machine.specs.Machine.{State, Token, Outcome, refused, begin, settle, close}
 use Rattle.machine.proofs.Ticks.{Own, own_begin, still_own, alike_settle, settle_taken, close_taken}
-use Rattle.tick.specs.declared.played.Played.{Played}
-use Rattle.tick.specs.Ticks.{supplied, finished, fed, opened, played}
+use Rattle.tick.specs.Ticks.{supplied, fed, opened, played}
 use Rattle.tick.proofs.Supplies.{alike_supplied}
 
 -- after begin: s₁ is the run's state and d₁ its drawing

@@ -1,32 +1,29 @@
 -- A tick leaves the least solution.
-use Rattle.std.proofs.Common.{◌≡◌, ℕ, zero, suc, ◌+◌, ◌<◌, ◌≤◌, ◌⊎◌, List, [], ◌∷◌, ◌++◌, length, set, replicate, Some, None, Ok, Err, Option, Result, sym, refl, ap, ◌∙◌, subst, subst₂, ⊎_elim, add-one, arith, length-set}
+use Rattle.std.proofs.Common.{◌≡◌, ℕ, suc, ◌+◌, ◌<◌, List, [], ◌∷◌, ◌++◌, length, set, replicate, Some, None, Ok, Err, Option, Result, sym, refl, ap, ◌∙◌, subst, subst₂, ⊎_elim, arith, length-set}
 use Rattle.std.proofs.lemmas.List.{length-replicate, length-append, append_assoc}
 use Rattle.text.specs.declared.fault.Fault.{Fault}
-use Rattle.text.specs.Results.{then, mapped}
-use Rattle.text.proofs.ResultLaws.{never_ok, same_ok, then_ok, mapped_ok}
+use Rattle.text.specs.Results.{mapped}
+use Rattle.text.proofs.ResultLaws.{never_ok, then_ok, mapped_ok}
 use Rattle.kit.specs.declared.signal.Signal.{Signal}
 use Rattle.kit.specs.declared.signal.Signal.TheVariants.{Unknown, Absent, Present}
 use Rattle.kit.specs.declared.signal.Cell.{Cell}
 use Rattle.kit.specs.Meaning.{Meaning, Lawful}
-use Rattle.draft.specs.declared.block.Block.{Block}
 use Rattle.draft.specs.Drawings.{Drawing}
 use Rattle.diagram.specs.Reading.{IsDiagram}
 use Rattle.machine.specs.declared.answers.Given.{Given}
 use Rattle.machine.specs.declared.answers.Intent.TheVariants.{Keep}
-use Rattle.machine.specs.declared.answers.Settled.{Settled}
 use Rattle.machine.specs.declared.answers.Closed.{Closed}
 use Rattle.machine.specs.declared.answers.Closed.TheVariants.{Kept, Undetermined}
-use Rattle.machine.specs.Logs.{Moved}
-use Rattle.machine.specs.Machine.{State, Token, Outcome, begin, begun, supply, settle, close, signal_of, with_wires, resting_with, lowest_unknown, next_cells}
+use Rattle.machine.specs.Machine.{State, Token, begin, begun, supply, settle, close, signal_of, lowest_unknown, next_cells}
 use Rattle.machine.specs.Settling.{settled}
 use Rattle.machine.specs.Solutions.{Least}
 use Rattle.machine.specs.Tables.{at}
-use Rattle.machine.proofs.Accepted.{begun_so, Supplied, supplied_so, settled_so, Moves, Stays, closed_so}
+use Rattle.machine.proofs.Accepted.{begun_so, supplied_so, settled_so, Moves, Stays, closed_so}
 use Rattle.machine.proofs.Holding.{HoldsOn, none_supplied, supply_holds, least_if}
 use Rattle.machine.proofs.Keeping.{none_unknown, length_next, next_at}
 use Rattle.machine.proofs.Settles.{settles_all}
 use Rattle.tick.specs.declared.played.Played.{Played}
-use Rattle.tick.specs.Solving.{inputs_given, NoneUnknown, Solves}
+use Rattle.tick.specs.Solving.{inputs_given, Solves}
 use Rattle.tick.specs.Ticks.{unless, supplied, finished, fed, opened, played}
 
 -- the inputs from w on, one after the other

@@ -1,10 +1,10 @@
 -- Supplying one input after the other.
-use Rattle.std.proofs.Common.{◌≡◌, ℕ, ◌+◌, ◌<◌, ◌≤◌, List, [], ◌∷◌, length, get_or, drop, Some, None, Ok, Err, Option, Result, sym, refl, ap, ◌∙◌}
+use Rattle.std.proofs.Common.{◌≡◌, ℕ, ◌+◌, ◌<◌, ◌≤◌, List, [], ◌∷◌, length, get_or, drop, Some, None, Ok, Err, Option, Result, refl, ap, ◌∙◌}
 use Rattle.std.proofs.lemmas.List.{at_drop_more, at_drop_all}
 use Rattle.text.specs.declared.fault.Fault.{Fault}
 use Rattle.draft.specs.Drawings.{Drawing}
 use Rattle.machine.specs.declared.answers.Given.{Given}
-use Rattle.machine.specs.Machine.{State, Outcome, refused, accepted, supply}
+use Rattle.machine.specs.Machine.{State, refused, accepted, supply}
 use Rattle.machine.proofs.Ticks.{Alike, alike_supply}
 use Rattle.tick.specs.Ticks.{supplied, unless}
 

@@ -1,10 +1,9 @@
 -- The two loops are diagrams, and settle as told.
-use Rattle.std.proofs.Common.{◌≡◌, ℕ, zero, suc, ◌<◌, ◌≤◌, true, cond, eqb, [], ◌∷◌, refl, ap, arith}
+use Rattle.std.proofs.Common.{◌≡◌, ℕ, zero, suc, ◌≤◌, true, cond, eqb, [], ◌∷◌, refl, ap, arith}
 use Rattle.std.proofs.lemmas.Bool.{ne_eqb}
 use Rattle.draft.specs.Limits.{last_kind}
-use Rattle.draft.specs.Text.{Drawable}
 use Rattle.diagram.specs.Reading.{IsDiagram}
-use Rattle.diagram.specs.Wiring.{Wired, ReadsBelow, DrivenOnce, drivers}
+use Rattle.diagram.specs.Wiring.{ReadsBelow, DrivenOnce, drivers}
 use Rattle.kit.specs.declared.signal.Signal.TheVariants.{Unknown, Present}
 use Rattle.machine.specs.Machine.{check_new, lengths_fit, begin, supply, settle}
 use Rattle.machine.specs.Settling.{rounds}

@@ -1,10 +1,10 @@
-use Rattle.std.proofs.Common.{◌≡◌, ℕ, ◌+◌, ◌-◌, ◌≤◌, true, false, eqb, length, codes, sym, refl, ap, ◌∙◌, arith}
+use Rattle.std.proofs.Common.{◌≡◌, ◌+◌, ◌-◌, false, length, codes, sym, ap, ◌∙◌, arith}
 use Rattle.std.proofs.lemmas.List.{nil_from_length}
 use Rattle.std.proofs.lemmas.Bool.{eqb-true}
-use Rattle.text.specs.LineWalk.{first_is, lines_left, next_piece}
+use Rattle.text.specs.LineWalk.{first_is, lines_left}
 use Rattle.text.specs.Pieces.{pieces, field}
 use Rattle.text.proofs.Cuts.{some_piece}
-use Rattle.bench.specs.Lists.{cut_at, before_ticks}
+use Rattle.bench.specs.Lists.{before_ticks}
 use Rattle.bench.proofs.Cutting.{at_ticks, last_line, at_end, one_line, line_length}
 use Rattle.bench.proofs.cut.before_ticks.Goals as goal
 use Rattle.bench.proofs.cut.before_ticks.Goals.{then-loop-lines-test+else-not-next_is, else-loop-lines-test}

@@ -1,4 +1,4 @@
-use Rattle.std.proofs.Common.{◌≡◌, ◌+◌, ◌-◌, List, length, Ok, Err, codes, Option, Result, sym, refl, ap, ◌∙◌, arith}
+use Rattle.std.proofs.Common.{◌≡◌, List, length, Err, codes, Option, Result, sym, ap, ◌∙◌, arith}
 use Rattle.std.proofs.lemmas.Result.{err_from_is_err_and}
 use Rattle.text.specs.declared.fault.Cause.TheVariants.{FieldCount}
 use Rattle.text.specs.declared.fault.Fault.{Fault}
@@ -8,7 +8,7 @@ use Rattle.text.specs.Walk.{fields_in, next_field, word_in}
 use Rattle.text.proofs.Cuts.{some_piece}
 use Rattle.text.proofs.ResultLaws.{never_ok}
 use Rattle.machine.specs.declared.answers.Given.{Given}
-use Rattle.bench.specs.TickLines.{tick_line, inputs_in, Into}
+use Rattle.bench.specs.TickLines.{tick_line, inputs_in}
 use Rattle.bench.proofs.LineLaws.{other_word, other_count, right_count}
 use Rattle.bench.proofs.line.read_tick.Given.{Over}
 use Rattle.bench.proofs.line.read_tick.Goals as goal

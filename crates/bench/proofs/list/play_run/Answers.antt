@@ -1,8 +1,7 @@
-use Rattle.std.proofs.Common.{◌≡◌, ◌+◌, ◌++◌, length, Ok, Err, string_bytes, sym, refl, ap, ◌∙◌}
+use Rattle.std.proofs.Common.{◌+◌, ◌++◌, string_bytes, sym, ap, ◌∙◌}
 use Rattle.std.proofs.lemmas.Result.{IfOk-weaker}
 use Rattle.text.specs.LineWalk.{lines_left}
 use Rattle.diagram.specs.Diagrams.{drawing}
-use Rattle.run.specs.Runs.{state_of, drawing_of_run}
 use Rattle.bench.specs.Lists.{printed, ticks_of}
 use Rattle.bench.proofs.Opening.{run_refused, run_made}
 use Rattle.bench.proofs.list.play_run.Goals as goal

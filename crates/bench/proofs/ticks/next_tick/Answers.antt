@@ -1,12 +1,11 @@
-use Rattle.std.proofs.Common.{◌≡◌, ℕ, ◌+◌, List, length, Ok, Err, Option, sym, refl, ap, ◌∙◌, inl}
+use Rattle.std.proofs.Common.{◌≡◌, ℕ, ◌+◌, List, length, Ok, Option, sym, ap, ◌∙◌, inl}
 use Rattle.text.specs.Pieces.{fields_of}
-use Rattle.text.specs.Results.{mapped}
 use Rattle.text.proofs.ResultLaws.{mapped_ok}
 use Rattle.machine.specs.declared.answers.Given.{Given}
 use Rattle.machine.specs.declared.answers.Intent.TheVariants.{Keep}
 use Rattle.run.specs.Runs.{state_of, drawing_of_run}
 use Rattle.tick.specs.Ticks.{played}
-use Rattle.bench.specs.Lists.{supplied_tick, line_played}
+use Rattle.bench.specs.Lists.{supplied_tick}
 use Rattle.bench.specs.TickLines.{tick_line}
 use Rattle.bench.proofs.ticks.next_tick.Goals as goal
 

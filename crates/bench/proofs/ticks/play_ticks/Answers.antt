@@ -1,13 +1,12 @@
-use Rattle.std.proofs.Common.{◌≡◌, ℕ, ◌+◌, eqb, List, [], ◌∷◌, ◌++◌, length, Ok, Err, string_bytes, sym, refl, ap, ◌∙◌, subst}
+use Rattle.std.proofs.Common.{◌≡◌, ◌+◌, [], ◌∷◌, ◌++◌, length, Ok, Err, string_bytes, sym, ap, ◌∙◌, subst}
 use Rattle.std.proofs.lemmas.List.{append_assoc, append-nil, nil_from_length}
 use Rattle.std.proofs.lemmas.Result.{IfOk-weaker}
 use Rattle.std.proofs.lemmas.Bool.{eqb-true, eqb-false}
-use Rattle.text.specs.Faults.{shown_fault}
 use Rattle.text.specs.LineWalk.{lines_left}
 use Rattle.text.specs.Pieces.{pieces}
 use Rattle.run.specs.Runs.{state_of, drawing_of_run}
 use Rattle.marks.specs.Marks.{shown_report}
-use Rattle.bench.specs.Lists.{Shown, ticks_of, printed, shown_line, shows, refused_by, ends}
+use Rattle.bench.specs.Lists.{Shown, ticks_of, printed, shown_line, ends}
 use Rattle.bench.specs.Steps.{NextTick}
 use Rattle.bench.proofs.Playing.{printed_more, none_left, next_shows, next_shorter, next_refused}
 use Rattle.bench.proofs.ticks.play_ticks.Goals as goal

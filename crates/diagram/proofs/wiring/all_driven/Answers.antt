@@ -1,4 +1,4 @@
-use Rattle.std.proofs.Common.{◌≡◌, ◌+◌, ◌-◌, Bool, true, false, cond, not, eqb, Err, sym, refl, ap, ◌∙◌, arith}
+use Rattle.std.proofs.Common.{◌+◌, ◌-◌, eqb, Err, sym, ◌∙◌, arith}
 use Rattle.std.proofs.lemmas.Bool.{not-false, not-true, cond-true, cond-false}
 use Rattle.text.specs.declared.fault.Cause.TheVariants.{NotDriven}
 use Rattle.text.specs.Results.{fault}

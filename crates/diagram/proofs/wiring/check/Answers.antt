@@ -1,4 +1,4 @@
-use Rattle.std.proofs.Common.{◌≡◌, ℕ, ◌-◌, ◌≤◌, false, List, [], length, Ok, Err, Result, sym, refl, ap, ◌∙◌, arith}
+use Rattle.std.proofs.Common.{◌≡◌, ℕ, ◌-◌, ◌≤◌, false, List, [], length, Err, Result, sym, ap, ◌∙◌, arith}
 use Rattle.std.proofs.lemmas.List.{get_or-replicate}
 use Rattle.std.proofs.lemmas.Result.{err_from_is_err_and}
 use Rattle.text.specs.declared.fault.Fault.{Fault}
@@ -6,7 +6,6 @@ use Rattle.text.specs.Results.{then}
 use Rattle.draft.specs.Drafts.{drawing_of}
 use Rattle.draft.specs.Drawings.{Drawing}
 use Rattle.draft.specs.Limits.{most_wires}
-use Rattle.diagram.specs.Marks.{Marked}
 use Rattle.diagram.specs.Wiring.{ports_within, driven_in, all_driven, wiring_of}
 use Rattle.diagram.proofs.MarkLaws.{marked_ok, marked_err}
 use Rattle.diagram.proofs.WiringLaws.{outs_below}

@@ -1,10 +1,10 @@
-use Rattle.std.proofs.Common.{◌≡◌, ◌+◌, get_or, drop, Ok, Err, Result, sym, refl, ap, ◌∙◌}
+use Rattle.std.proofs.Common.{◌≡◌, ◌+◌, drop, Err, Result, sym, ap, ◌∙◌}
 use Rattle.std.proofs.lemmas.List.{at_drop_more, at_drop_all}
 use Rattle.std.proofs.lemmas.Result.{err_from_is_err_and}
 use Rattle.text.specs.declared.fault.Fault.{Fault}
 use Rattle.text.specs.Results.{then}
 use Rattle.draft.specs.Drawings.{blank}
-use Rattle.diagram.specs.Wiring.{block_within, ports_within}
+use Rattle.diagram.specs.Wiring.{ports_within}
 use Rattle.diagram.proofs.wiring.ports_within.Goals as goal
 use Rattle.diagram.proofs.wiring.ports_within.Goals.{After-block_within}
 

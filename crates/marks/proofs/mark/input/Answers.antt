@@ -1,9 +1,8 @@
-use Rattle.std.proofs.Common.{◌≡◌, true, false, Some, None, Ok, Err, codes, sym, refl, ap, ◌∙◌, rules}
+use Rattle.std.proofs.Common.{◌≡◌, Ok, Err, codes, sym, ap, ◌∙◌, rules}
 use Rattle.std.specs.Str.{bytes_eq}
 use Rattle.std.proofs.lemmas.Slice.Eq.{slice_eq-Decides, bytes_eq-Decides}
 use Rattle.std.proofs.lemmas.Result.{err_from_is_err_and}
 use Rattle.std.proofs.lemmas.Bool.Decides.{same_from_decides, Decides-eqb}
-use Rattle.marks.specs.Marks.{present}
 use Rattle.marks.proofs.InputLaws.{nothing_marked, absent_marked, number_marked}
 use Rattle.marks.proofs.mark.input.Given.{Over}
 use Rattle.marks.proofs.mark.input.Goals as goal

@@ -1,15 +1,15 @@
-use Rattle.std.proofs.Common.{◌≡◌, ℕ, ◌≤◌, cond, leb, List, ◌++◌, length, take, drop, Ok, Err, Result, sym, refl, ap, ◌∙◌, subst, arith}
+use Rattle.std.proofs.Common.{◌≡◌, leb, ◌++◌, length, take, drop, Ok, Err, Result, sym, ap, ◌∙◌}
 use Rattle.std.proofs.lemmas.List.{take_at}
 use Rattle.std.proofs.lemmas.Bool.{le-leb, cond-true}
 use Rattle.text.specs.declared.fault.Cause.TheVariants.{LongInput, ShortBuffer}
 use Rattle.text.specs.declared.fault.Fault.{Fault}
-use Rattle.text.specs.Results.{then, fault, mapped}
+use Rattle.text.specs.Results.{then, fault}
 use Rattle.text.proofs.ResultLaws.{mapped_ok, passed}
 use Rattle.draft.specs.Drawings.{Drawing}
 use Rattle.draft.specs.Text.{text_of}
 use Rattle.diagram.specs.Diagrams.{drawing}
 use Rattle.diagram.specs.Reading.{read_of, after_read}
-use Rattle.diagram.specs.Writing.{write_answer, write_bytes}
+use Rattle.diagram.specs.Writing.{write_answer}
 use Rattle.profile.specs.declared.open.Report.{Report}
 use Rattle.profile.specs.Opening.{most_bytes, report_of, opened, written_back}
 use Rattle.profile.proofs.open.open.Goals as goal

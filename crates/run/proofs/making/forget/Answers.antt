@@ -1,4 +1,4 @@
-use Rattle.std.proofs.Common.{◌≡◌, ◌<◌, ◌≢◌, length, replicate, sym, refl, ap, ◌∙◌, arith, below_more}
+use Rattle.std.proofs.Common.{length, replicate, sym, ◌∙◌, arith, below_more}
 use Rattle.std.proofs.lemmas.List.{ext_get_or, length-replicate, get_or-replicate, get_or-set_same, get_or-set_other}
 use Rattle.kit.specs.declared.signal.Signal.TheVariants.{Unknown}
 use Rattle.run.proofs.making.forget.Goals as goal

@@ -1,4 +1,4 @@
-use Rattle.std.proofs.Common.{◌≡◌, is_err, sym, ap, ◌∙◌}
+use Rattle.std.proofs.Common.{is_err, sym, ap, ◌∙◌}
 use Rattle.run.specs.Runs.{state_of}
 use Rattle.run_cases.proofs.Steps.{alike_left, alike_on, begin_turned, turned_alike, err_of_token}
 use Rattle.run_cases.proofs.playing.play_open.Goals as goal

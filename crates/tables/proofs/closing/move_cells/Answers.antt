@@ -1,14 +1,12 @@
-use Rattle.std.proofs.Common.{◌≡◌, ℕ, suc, ◌+◌, ◌<◌, List, length, get_or, take, set, sym, refl, ap, ◌∙◌, subst, arith, rules}
+use Rattle.std.proofs.Common.{◌≡◌, suc, ◌+◌, ◌<◌, length, get_or, take, set, sym, ap, ◌∙◌, subst, arith, rules}
 use Rattle.std.proofs.lemmas.List.{get_or_read, take_all}
-use Rattle.kit.specs.declared.signal.Cell.{Cell}
 use Rattle.kit.specs.declared.signal.Cell.TheVariants.{Empty}
-use Rattle.draft.specs.declared.block.Block.{Block}
 use Rattle.draft.specs.Drawings.{blank}
 use Rattle.diagram.specs.Diagrams.{drawing}
 use Rattle.diagram.specs.Marks.{Below}
 use Rattle.diagram.specs.Wiring.{ins}
 use Rattle.machine.specs.Machine.{next_cells}
-use Rattle.machine.specs.Tables.{cell_at, block_at, next_cell, reads}
+use Rattle.machine.specs.Tables.{cell_at, block_at, next_cell}
 use Rattle.tables.proofs.Closings.{next_later, next_more}
 use Rattle.tables.proofs.Places.{in_place}
 use Rattle.tables.proofs.closing.move_cells.Goals as goal

@@ -1,5 +1,4 @@
-use Rattle.std.proofs.Common.{◌≡◌, ℕ, List, length, get_or, sym, ap, ◌∙◌, subst}
-use Rattle.draft.specs.declared.block.Block.{Block}
+use Rattle.std.proofs.Common.{length, get_or, sym, subst}
 use Rattle.draft.specs.Drawings.{blank}
 use Rattle.diagram.specs.Diagrams.{drawing}
 use Rattle.diagram.specs.Marks.{Below}

@@ -1,4 +1,4 @@
-use Rattle.std.proofs.Common.{◌≡◌, sym, refl, ◌∙◌, arith}
+use Rattle.std.proofs.Common.{sym, ◌∙◌, arith}
 use Rattle.machine.specs.Tables.{answer}
 use Rattle.tables.proofs.Knowing.{all_kept}
 use Rattle.tables.proofs.firing.fire_block.Goals as goal

@@ -1,4 +1,4 @@
-use Rattle.std.proofs.Common.{◌≡◌, ℕ, zero, suc, ◌+◌, ◌<◌, ◌≤◌, length, get_or, sym, refl, ap, ◌∙◌, subst, arith, rules}
+use Rattle.std.proofs.Common.{◌≡◌, suc, ◌+◌, ◌<◌, ◌≤◌, length, get_or, sym, ap, ◌∙◌, subst, arith, rules}
 use Rattle.std.proofs.lemmas.List.{get_or_read}
 use Rattle.kit.specs.declared.signal.Cell.TheVariants.{Empty}
 use Rattle.draft.specs.Drawings.{blank}
@@ -7,7 +7,7 @@ use Rattle.diagram.specs.Marks.{Below}
 use Rattle.diagram.specs.Wiring.{ins, outs}
 use Rattle.machine.proofs.Rows.{known_within}
 use Rattle.machine.specs.Firing.{fired, after_fire}
-use Rattle.machine.specs.Tables.{block_at, cell_at, known}
+use Rattle.machine.specs.Tables.{block_at, cell_at}
 use Rattle.tables.proofs.Places.{in_place}
 use Rattle.tables.proofs.firing.fire_round.Goals as goal
 

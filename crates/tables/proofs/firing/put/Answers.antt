@@ -1,9 +1,9 @@
-use Rattle.std.proofs.Common.{◌≡◌, ℕ, ◌+◌, ◌≤◌, length, set, sym, refl, ap, ◌∙◌, arith}
+use Rattle.std.proofs.Common.{◌≡◌, set, sym, refl, ap, ◌∙◌, arith}
 use Rattle.std.proofs.lemmas.List.{get_or_read, set-get_or}
 use Rattle.kit.specs.declared.signal.Signal.{Signal}
 use Rattle.kit.specs.declared.signal.Signal.TheVariants.{Unknown, Absent, Present}
-use Rattle.machine.specs.Firing.{takes, put}
-use Rattle.machine.specs.Tables.{at, weight, known}
+use Rattle.machine.specs.Firing.{takes}
+use Rattle.machine.specs.Tables.{at, weight}
 use Rattle.tables.proofs.KnownLaws.{known_set, weight_known}
 use Rattle.tables.proofs.firing.put.Given.{Over}
 use Rattle.tables.proofs.firing.put.Goals as goal

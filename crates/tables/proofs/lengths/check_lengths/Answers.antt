@@ -1,4 +1,4 @@
-use Rattle.std.proofs.Common.{◌≡◌, length, Err, sym, refl, ap, ◌∙◌}
+use Rattle.std.proofs.Common.{length, Err, sym, ap, ◌∙◌}
 use Rattle.text.specs.declared.fault.Cause.TheVariants.{TableLength}
 use Rattle.text.specs.Results.{fault}
 use Rattle.diagram.specs.Diagrams.{drawing}

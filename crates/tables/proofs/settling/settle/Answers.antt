@@ -1,4 +1,4 @@
-use Rattle.std.proofs.Common.{◌≡◌, Ok, Err, sym, refl, ap, ◌∙◌}
+use Rattle.std.proofs.Common.{◌≡◌, Ok, sym, ap, ◌∙◌}
 use Rattle.text.specs.Results.{then}
 use Rattle.diagram.specs.Diagrams.{drawing}
 use Rattle.machine.specs.Settling.{settled, settle_answer}

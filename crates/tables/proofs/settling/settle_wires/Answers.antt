@@ -1,4 +1,4 @@
-use Rattle.std.proofs.Common.{◌≡◌, ℕ, ◌+◌, ◌-◌, ◌*◌, ◌<◌, ◌≤◌, List, length, sym, refl, ap, ◌∙◌, subst, mul-le-mul_right, arith}
+use Rattle.std.proofs.Common.{◌≡◌, ◌+◌, ◌-◌, ◌*◌, ◌≤◌, List, length, sym, refl, ap, ◌∙◌, subst, mul-le-mul_right, arith}
 use Rattle.std.proofs.lemmas.List.{length-take-le}
 use Rattle.kit.specs.declared.signal.Signal.{Signal}
 use Rattle.draft.specs.Limits.{most_wires, most_blocks}
@@ -7,7 +7,7 @@ use Rattle.diagram.specs.Diagrams.{drawing}
 use Rattle.machine.proofs.Rows.{known_within}
 use Rattle.machine.specs.Firing.{round}
 use Rattle.machine.specs.declared.answers.Settled.{Settled}
-use Rattle.machine.specs.Settling.{Rounds, settled, settle_answer}
+use Rattle.machine.specs.Settling.{Rounds}
 use Rattle.machine.specs.Tables.{known}
 use Rattle.tables.proofs.Rounding.{SoFar, so_far_more, so_far_last}
 use Rattle.tables.proofs.settling.settle_wires.Goals as goal

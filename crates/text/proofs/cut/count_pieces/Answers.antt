@@ -2,7 +2,7 @@ use Rattle.std.proofs.Common.{◌≡◌, ◌+◌, cond, eqb, length, get_or, dro
 use Rattle.std.proofs.lemmas.List.{at_drop_more, at_drop_all}
 use Rattle.std.proofs.lemmas.Bool.Decides.{nat_tests}
 use Rattle.text.specs.Pieces.{pieces}
-use Rattle.text.proofs.Cuts.{length_pieces, some_piece}
+use Rattle.text.proofs.Cuts.{length_pieces}
 use Rattle.text.proofs.cut.count_pieces.Goals as goal
 
 pub loop-b-preserved : goal.loop-b-preserved

@@ -1,5 +1,4 @@
 use Rattle.std.proofs.Common.{◌≡◌, Ok, Err, arith, rules}
-use Rattle.text.specs.declared.fault.Cause.{Cause}
 use Rattle.text.specs.declared.fault.Cause.TheVariants.{Range}
 use Rattle.text.specs.Numerals.{number_in}
 use Rattle.text.proofs.NumberLaws.{exact_number}

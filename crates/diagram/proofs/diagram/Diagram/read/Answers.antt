@@ -1,9 +1,7 @@
-use Rattle.std.proofs.Common.{◌≡◌, Ok, Err, Result, sym, refl, ap, ◌∙◌}
+use Rattle.std.proofs.Common.{◌≡◌, Ok, Err, sym, refl, ap, ◌∙◌}
 use Rattle.std.proofs.lemmas.Result.{err_from_is_err_and}
 use Rattle.std.proofs.lemmas.Bool.{false≢true}
 use Rattle.text.specs.Results.{mapped}
-use Rattle.draft.specs.Drafts.{drawing_of}
-use Rattle.draft.specs.Drawings.{Drawing}
 use Rattle.diagram.specs.Diagrams.{drawing}
 use Rattle.diagram.specs.Reading.{read_of, after_read}
 use Rattle.diagram.proofs.ReadLaws.{read_from, reads_exactly}

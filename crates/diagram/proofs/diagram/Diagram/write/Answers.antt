@@ -1,4 +1,4 @@
-use Rattle.std.proofs.Common.{◌≡◌, cond, leb, ◌++◌, length, drop, Ok, Err, sym, refl, ap, ◌∙◌, arith}
+use Rattle.std.proofs.Common.{leb, ◌++◌, length, drop, Ok, Err, sym, refl, ap, ◌∙◌, arith}
 use Rattle.std.proofs.lemmas.Bool.{le-leb, lt-leb, cond-true, cond-false}
 use Rattle.text.specs.declared.fault.Cause.TheVariants.{ShortBuffer}
 use Rattle.text.specs.Results.{fault}

@@ -1,6 +1,5 @@
-use Rattle.std.proofs.Common.{◌≡◌, List, [], ◌∷◌, ◌++◌, decimal, sym, refl, ap, ◌∙◌, append_assoc, append-nil, arith}
-use Rattle.std.specs.Fmt.{signed_decimal}
-use Rattle.draft.specs.Text.{in_fields, out_fields}
+use Rattle.std.proofs.Common.{[], ◌∷◌, ◌++◌, decimal, sym, ap, ◌∙◌, append-nil, arith}
+use Rattle.draft.specs.Text.{out_fields}
 use Rattle.diagram.specs.Lines.{shown, after_commas}
 use Rattle.diagram.proofs.Grows.{grown_as, grown_on}
 use Rattle.diagram.proofs.line.Line.out_fields.Goals as goal

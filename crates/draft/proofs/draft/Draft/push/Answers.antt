@@ -1,6 +1,6 @@
 use Rattle.std.proofs.Common.{◌≡◌, ◌<◌, length, get_or, set, sym, ap, ◌∙◌, subst, arith, length-set, w32, SFits, rules, below_more}
 use Rattle.std.proofs.lemmas.List.{take_more_set, get_or-set_same, get_or-set_other}
-use Rattle.draft.specs.Drawings.{Drawing, InRange, blank}
+use Rattle.draft.specs.Drawings.{InRange, blank}
 use Rattle.draft.proofs.draft.Draft.push.Goals as goal
 
 pub invariant_of-self : goal.invariant_of-self
@@ -17,9 +17,9 @@ invariant_of-self c =
       few_blocks = omega (arith, c.requires);
       room = length-set d.blocks d.count b ∙ d.room;
       in_range =
-        below_more (λ k. InRange (get_or (set d.blocks d.count b) k blank)) d.count
-            (λ k h. subst InRange (sym (get_or-set_other d.blocks d.count k b blank (λ e. omega arith))) (d.in_range k h))
-            (subst InRange (sym here) (search rules, fits.sfits));
+          below_more (λ k. InRange (get_or (set d.blocks d.count b) k blank)) d.count
+          (λ k h. subst InRange (sym (get_or-set_other d.blocks d.count k b blank (λ e. omega arith))) (d.in_range k h))
+          (subst InRange (sym here) (search rules, fits.sfits));
     }
 
 pub returns : goal.returns

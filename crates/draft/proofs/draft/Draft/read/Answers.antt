@@ -1,4 +1,4 @@
-use Rattle.std.proofs.Common.{◌≡◌, ℕ, ◌+◌, ◌<◌, ◌≤◌, List, [], ◌∷◌, ◌++◌, length, take, Ok, Err, Result, sym, refl, ap, ◌∙◌, arith}
+use Rattle.std.proofs.Common.{◌≡◌, ◌+◌, List, [], ◌∷◌, ◌++◌, length, take, Ok, Err, Result, sym, ap, ◌∙◌, arith}
 use Rattle.std.proofs.lemmas.List.{length-take-le, nil_from_length}
 use Rattle.std.proofs.lemmas.Result.{err_from_is_err_and}
 use Rattle.std.proofs.lemmas.Bool.{eqb-true, eqb-false}
@@ -13,8 +13,8 @@ use Rattle.draft.specs.declared.draft.Draft.{Draft}
 use Rattle.draft.specs.Drafts.{drawing_of}
 use Rattle.draft.specs.Drawings.{Drawing}
 use Rattle.draft.specs.Lines.{block_line, diagram_line}
-use Rattle.draft.specs.Reading.{draft_of, drawing_in, blocks_of}
-use Rattle.draft.proofs.ReadingLaws.{blocks_step, blocks_done, blocks_unended, drawn_from, drawn_step, drawing_step, drawing_unended, sizes_fit}
+use Rattle.draft.specs.Reading.{draft_of, drawing_in}
+use Rattle.draft.proofs.ReadingLaws.{blocks_done, blocks_unended, drawn_from, drawn_step, drawing_step, drawing_unended, sizes_fit}
 use Rattle.draft.proofs.draft.Draft.read.Goals as goal
 use Rattle.draft.proofs.draft.Draft.read.Goals.{In_ok-line, In_ok-line-2}
 

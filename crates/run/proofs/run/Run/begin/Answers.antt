@@ -1,14 +1,12 @@
-use Rattle.std.proofs.Common.{◌≡◌, ◌+◌, leb, length, replicate, Ok, Err, Result, sym, refl, ap, ◌∙◌, arith}
-use Rattle.std.proofs.lemmas.List.{length-replicate}
+use Rattle.std.proofs.Common.{◌≡◌, ◌+◌, leb, Err, sym, refl, ap, ◌∙◌}
 use Rattle.std.proofs.lemmas.Result.{err_from_is_err_and}
 use Rattle.std.proofs.lemmas.Bool.{cond-true, cond-false, le-leb, lt-leb}
 use Rattle.text.specs.declared.fault.Cause.TheVariants.{NoTickLeft}
 use Rattle.text.specs.Results.{fault, mapped}
 use Rattle.machine.specs.declared.answers.Phase.TheVariants.{Resting, Open}
-use Rattle.machine.specs.Machine.{State, most_ticks, refused, accepted, begun, begin, begin_in}
-use Rattle.run.specs.declared.admission.Call.TheVariants.{Begin}
-use Rattle.run.specs.Runs.{state_of, token_of, drawing_of_run}
-use Rattle.run.proofs.Calls.{begin_turned, begin_taken, not_void}
+use Rattle.machine.specs.Machine.{most_ticks, refused, accepted, begun, begin, begin_in}
+use Rattle.run.specs.Runs.{state_of, token_of}
+use Rattle.run.proofs.Calls.{begin_turned, begin_taken}
 use Rattle.run.proofs.run.Run.begin.Given.{Over}
 use Rattle.run.proofs.Finished.{finish_begin}
 use Rattle.run.proofs.run.Run.begin.Goals as goal

@@ -1,6 +1,6 @@
-use Rattle.std.proofs.Common.{◌≡◌, is_ok, Ok, Err, sym, refl, ap, ◌∙◌}
+use Rattle.std.proofs.Common.{is_ok, Ok, Err, sym, refl, ap, ◌∙◌}
 use Rattle.machine.specs.declared.answers.Phase.TheVariants.{Resting}
-use Rattle.machine.specs.Machine.{State, close, closed_by}
+use Rattle.machine.specs.Machine.{closed_by}
 use Rattle.run.specs.Runs.{state_of, token_of, drawing_of_run}
 use Rattle.run.proofs.Calls.{close_turned, close_other, close_own, not_void}
 use Rattle.run.proofs.Closings.{closed_keep}

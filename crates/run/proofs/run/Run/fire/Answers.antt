@@ -1,16 +1,12 @@
-use Rattle.std.proofs.Common.{◌≡◌, ℕ, ◌+◌, ◌-◌, ◌<◌, ◌≤◌, cond, leb, length, Ok, Err, Result, sym, refl, ap, ◌∙◌, arith}
+use Rattle.std.proofs.Common.{◌≡◌, ◌-◌, cond, leb, length, Ok, Err, sym, refl, ap, ◌∙◌}
 use Rattle.std.proofs.lemmas.Result.{err_from_is_err_and}
-use Rattle.std.proofs.lemmas.Bool.{cond-true, cond-false, le-leb, lt-leb}
 use Rattle.text.specs.declared.fault.Cause.TheVariants.{NumberOutside}
 use Rattle.text.specs.Results.{fault, then}
-use Rattle.machine.specs.declared.answers.Phase.TheVariants.{Open}
 use Rattle.machine.specs.Firing.{after_fire}
-use Rattle.machine.specs.Machine.{State, refused, accepted, fire, fire_in, with_wires}
 use Rattle.machine.specs.Tables.{block_at, cell_at, known}
 use Rattle.run.specs.declared.admission.Call.TheVariants.{Fire}
 use Rattle.run.specs.Runs.{state_of, drawing_of_run}
 use Rattle.run.proofs.Calls.{fire_turned, fire_taken, not_void}
-use Rattle.run.proofs.run.Run.fire.Given.{Over}
 use Rattle.tables.specs.Fitting.{fitting_at, where_taken}
 use Rattle.run.proofs.Finished.{finish_fire}
 use Rattle.run.proofs.Fitting.{run_fits, fire_apart}

@@ -1,4 +1,4 @@
-use Rattle.std.proofs.Common.{◌≡◌, length, replicate, Ok, Err, sym, refl, ap, ◌∙◌}
+use Rattle.std.proofs.Common.{length, replicate, sym, refl, ap, ◌∙◌}
 use Rattle.kit.specs.declared.signal.Signal.TheVariants.{Unknown}
 use Rattle.diagram.specs.Diagrams.{drawing}
 use Rattle.machine.specs.declared.answers.Phase.TheVariants.{Resting}

@@ -1,6 +1,5 @@
-use Rattle.std.proofs.Common.{◌≡◌, Ok, Err, Result, sym, refl, ap, ◌∙◌}
+use Rattle.std.proofs.Common.{Ok, Err, sym, refl, ap, ◌∙◌}
 use Rattle.std.proofs.lemmas.Result.{err_from_is_err_and}
-use Rattle.machine.specs.Machine.{State, settle, settle_in}
 use Rattle.run.specs.Runs.{state_of, drawing_of_run}
 use Rattle.run.proofs.Calls.{settle_turned, settle_taken, not_void}
 use Rattle.text.specs.Results.{then}

@@ -1,4 +1,4 @@
-use Rattle.std.proofs.Common.{◌≡◌, ℕ, ◌<◌, ◌≤◌, leb, length, set, Ok, Err, Result, sym, refl, ap, ◌∙◌, arith, rules}
+use Rattle.std.proofs.Common.{◌≡◌, ℕ, ◌<◌, leb, length, set, Err, sym, refl, ap, ◌∙◌, arith, rules}
 use Rattle.std.proofs.lemmas.List.{get_or_default}
 use Rattle.std.proofs.lemmas.Result.{err_from_is_err_and}
 use Rattle.std.proofs.lemmas.Bool.{cond-true, cond-false, le-leb, lt-leb}
@@ -8,7 +8,7 @@ use Rattle.kit.specs.declared.signal.Signal.{Signal}
 use Rattle.kit.specs.declared.signal.Signal.TheVariants.{Unknown, Absent, Present}
 use Rattle.machine.specs.declared.answers.Given.{Given}
 use Rattle.machine.specs.declared.answers.Phase.TheVariants.{Open}
-use Rattle.machine.specs.Machine.{State, refused, accepted, supply, supply_in, supply_known, with_wires, signal_of}
+use Rattle.machine.specs.Machine.{State, refused, supply, supply_in, supply_known, with_wires}
 use Rattle.machine.specs.Tables.{at}
 use Rattle.run.specs.declared.admission.Call.TheVariants.{Supply}
 use Rattle.run.specs.Runs.{state_of, drawing_of_run}

@@ -1,10 +1,10 @@
-use Rattle.std.proofs.Common.{◌≡◌, ℕ, ◌+◌, ◌-◌, ◌<◌, ◌≤◌, List, length, take, drop, sym, refl, ap, ◌∙◌, add-one, arith, rules}
+use Rattle.std.proofs.Common.{◌≡◌, ℕ, ◌+◌, ◌-◌, ◌≤◌, List, length, take, drop, sym, refl, ap, ◌∙◌, add-one, arith}
 use native.Mathlib.Nat.{sub-zero}
 use Rattle.std.proofs.lemmas.List.{take_rest, get_or_past, length-drop}
 use Rattle.text.specs.declared.fields.Fields.{Fields}
-use Rattle.text.specs.Pieces.{before, start_of, field, fields_of}
-use Rattle.text.specs.Walk.{fields_in, next_field, Moved}
-use Rattle.text.proofs.Cuts.{At, at_start, field_at, before_within}
+use Rattle.text.specs.Pieces.{before, start_of}
+use Rattle.text.specs.Walk.{fields_in, next_field}
+use Rattle.text.proofs.Cuts.{at_start, field_at, before_within}
 use Rattle.text.proofs.fields.Fields.next_field.Goals as goal
 
 -- what is left of the line, as the code cuts it

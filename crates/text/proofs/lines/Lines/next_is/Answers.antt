@@ -1,10 +1,10 @@
-use Rattle.std.proofs.Common.{◌≡◌, ◌-◌, take, sym, refl, ap, ◌∙◌}
+use Rattle.std.proofs.Common.{◌≡◌, ◌-◌, take, sym, ap, ◌∙◌}
 use native.Mathlib.Nat.{sub-zero}
 use Rattle.std.specs.Str.{bytes_eq}
 use Rattle.std.proofs.lemmas.Slice.Eq.{slice_eq-Decides, bytes_eq-Decides}
 use Rattle.std.proofs.lemmas.Bool.Decides.{same_from_decides, Decides-eqb}
 use Rattle.text.specs.LineWalk.{first_is, next_piece}
-use Rattle.text.specs.Pieces.{field, fields_of, before}
+use Rattle.text.specs.Pieces.{field, fields_of}
 use Rattle.text.proofs.Cuts.{first_piece}
 use Rattle.text.proofs.lines.Lines.next_is.Goals as goal
 
