@@ -1,10 +1,7 @@
 // A kit that knows a kind of the number kit too, and answers otherwise: 17 is its constant 9. Joined with the number
 // kit, whichever comes first answers for 17.
-ghost use Rattle.std.specs.Prelude.{◌≡◌, [], ◌∷◌, refl};
-ghost use Rattle.cases.specs.Rival.{rival, rival_fires};
-ghost use Rattle.kit.specs.Tables.{among, unknown};
-ghost use Rattle.kit.proofs.Rising.{among_rises};
-ghost use Rattle.std.proofs.Common.{rules};
+ghost use Rattle.std.specs.Prelude.{◌≡◌};
+ghost use Rattle.cases.specs.Rival.{rival, rival_monotone, rival_bounded};
 
 use kit::question::{Kit, Ports};
 use kit::signal::{Cell, Inputs, Signal};
@@ -24,9 +21,9 @@ pub struct Rival;
 impl Kit<i32> for Rival {
     ghost meaning = { λ _. rival };
 
-    ghost monotone = { λ k kind parameter cell port. among_rises ((0, among rival_fires unknown kind) ∷ []) (among_rises rival_fires (λ s t h. refl, tt) kind, tt) port };
+    ghost monotone = { λ _. rival_monotone };
 
-    ghost bounded = { Prim.search rules };
+    ghost bounded = { λ _. rival_bounded };
 
     fn ports(&self, kind: u8) -> Ports {
         ports_in(&KINDS, kind)

@@ -1,3 +1,5 @@
 mod Lookup
 pub mod AtMost
+pub mod Bounds
+pub mod Deciding
 pub mod Rising

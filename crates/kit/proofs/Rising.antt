@@ -1,5 +1,5 @@
 -- Answers that rise with the inputs: strict kinds, and tables of kinds.
-use Rattle.std.proofs.Common.{ℕ, Bool, true, false, cond, eqb, List, [], ◌∷◌}
+use Rattle.std.proofs.Common.{◌≡◌, ℕ, Bool, true, false, cond, ◌||◌, eqb, List, [], ◌∷◌, sym, refl, subst}
 use Rattle.kit.specs.declared.signal.Signal.{Signal}
 use Rattle.kit.specs.declared.signal.Signal.TheVariants.{Unknown, Absent, Present}
 use Rattle.kit.specs.declared.signal.Inputs.{Inputs}
@@ -56,3 +56,29 @@ strict_of_three rule s t h =
     strict_rises rule (together s.a (together s.b s.c)) (together t.a (together t.b t.c))
     (together_rises s.a t.a (together s.b s.c) (together t.b t.c) h.a
     (together_rises s.b t.b s.c t.c h.b h.c))
+
+-- a kind of two inputs that answers at once where either settles it, and is strict else
+module _ {V : Type 0} (settles : Signal V → Bool) (answer : V) (rule : V × V → V) (none : settles Unknown ≡ false) where
+  abbrev told : Bool → Bool → Signal V → Signal V → Signal V
+  told x y a b = cond (x || y) (Present answer) (strict rule (together a b))
+
+  left_in : (x y : Bool) (a b : Signal V) → told false y Unknown b ⊑ told x y a b
+  left_in true true a b = refl
+  left_in false true a b = refl
+  left_in true false a b = tt
+  left_in false false a b = tt
+
+  right_in : (x y : Bool) (a b : Signal V) → told x false a Unknown ⊑ told x y a b
+  right_in true y a b = refl
+  right_in false y Unknown b = tt
+  right_in false y Absent b = tt
+  right_in false y (Present v) b = tt
+
+  abbrev early : Signal V → Signal V → Signal V
+  early a b = told (settles a) (settles b) a b
+
+  pub early_of_two : Rises (λ i. cond (settles i.a || settles i.b) (Present answer) (strict rule (together i.a i.b)))
+  early_of_two s t h =
+      at_most_trans (early s.a s.b) (early t.a s.b) (early t.a t.b)
+      (rises (λ x. early x s.b) (λ x. subst (λ u. told u (settles s.b) Unknown s.b ⊑ early x s.b) (sym none) (left_in (settles x) (settles s.b) x s.b)) s.a t.a h.a)
+      (rises (λ x. early t.a x) (λ x. subst (λ u. told (settles t.a) u t.a Unknown ⊑ early t.a x) (sym none) (right_in (settles t.a) (settles x) t.a x)) s.b t.b h.b)

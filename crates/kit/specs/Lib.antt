@@ -5,3 +5,4 @@ pub mod Strict
 pub mod Cells
 pub mod Orderly
 pub mod Joined
+pub mod JoinedLaws

@@ -1,7 +1,7 @@
 // Two kits over one type of value as one.
 ghost use Rattle.std.specs.Prelude.{◌≡◌};
 ghost use Rattle.kit.specs.Joined.{joined, JoiningKeeps};
-ghost use Rattle.std.proofs.Common.{rules};
+ghost use Rattle.kit.specs.JoinedLaws.{joined_monotone, joined_bounded};
 
 use crate::question::{Kit, Ports};
 use crate::signal::{Cell, Inputs, Signal};
@@ -16,9 +16,9 @@ pub struct Joined<A, B> {
 impl<V: Copy, A: Kit<V>, B: Kit<V>> Kit<V> for Joined<A, B> {
     ghost meaning = { λ j. joined (A.Kit.meaning j.first) (B.Kit.meaning j.second) };
 
-    ghost monotone = { Prim.search rules };
+    ghost monotone = { λ j. joined_monotone (A.Kit.meaning j.first) (B.Kit.meaning j.second) (A.Kit.monotone j.first) (B.Kit.monotone j.second) };
 
-    ghost bounded = { Prim.search rules };
+    ghost bounded = { λ j. joined_bounded (A.Kit.meaning j.first) (B.Kit.meaning j.second) (A.Kit.bounded j.first) (B.Kit.bounded j.second) };
 
     fn ports(&self, kind: u8) -> Ports {
         let ports = self.first.ports(kind);

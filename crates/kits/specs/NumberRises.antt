@@ -1,13 +1,15 @@
--- Law one for each kind of the number kit.
-use Rattle.std.specs.Prelude.{zero, suc, ℤ, pos, negsuc}
+-- Law one for each kind of the number kit, and both laws of the kit.
+use Rattle.std.specs.Prelude.{zero, suc, [], ◌∷◌, ℤ, pos, negsuc, refl}
 use Rattle.kit.specs.declared.signal.Signal.{Signal}
 use Rattle.kit.specs.declared.signal.Signal.TheVariants.{Unknown, Absent, Present}
 use Rattle.kit.specs.declared.signal.Cell.{Cell}
 use Rattle.kit.specs.Order.{◌⊑◌}
-use Rattle.kit.specs.Meaning.{Rises}
-use Rattle.kits.specs.Number.{constant_fires, sum_fires, mean_fires, choose, choose_fires, count, count_fires}
+use Rattle.kit.specs.Meaning.{Rises, Monotone, Bounded}
+use Rattle.kit.specs.Tables.{among, unknown}
+use Rattle.kits.specs.Number.{number, number_table, number_fires, constant_fires, sum_fires, mean_fires, choose, choose_fires, count, count_fires}
 use Rattle.kit.proofs.AtMost.{at_most_refl, rises, at_most_trans}
-use Rattle.kit.proofs.Rising.{strict_of_two}
+use Rattle.kit.proofs.Bounds.{table_bounded}
+use Rattle.kit.proofs.Rising.{strict_of_two, among_rises}
 
 pub constant_rises : (parameter : ℤ) → Rises (constant_fires parameter)
 constant_rises parameter s t h = at_most_refl (Present parameter)
@@ -33,3 +35,11 @@ choose_rises s t h =
 
 pub count_rises : (cell : Cell ℤ) → Rises (count_fires cell)
 count_rises cell s t h = rises (count cell) (λ x. tt) s.a t.a h.a
+
+pub number_monotone : Monotone number
+number_monotone kind parameter cell port =
+    among_rises ((0, among (number_fires parameter cell) unknown kind) ∷ [])
+    (among_rises (number_fires parameter cell) (constant_rises parameter, (sum_rises, (mean_rises, (choose_rises, (count_rises cell, tt))))) kind, tt) port
+
+pub number_bounded : Bounded number
+number_bounded = table_bounded number_table refl

@@ -1,10 +1,7 @@
 // The common kit, written once for every type of value.
-ghost use Rattle.std.specs.Prelude.{◌≡◌, [], ◌∷◌};
-ghost use Rattle.kits.specs.Common.{common, default_fires, common_fires};
-ghost use Rattle.kit.specs.Tables.{among, unknown};
-ghost use Rattle.kit.proofs.Rising.{among_rises};
-ghost use Rattle.kits.specs.CommonRises.{delay_rises, default_rises};
-ghost use Rattle.std.proofs.Common.{rules};
+ghost use Rattle.std.specs.Prelude.{◌≡◌};
+ghost use Rattle.kits.specs.Common.{common, default_fires};
+ghost use Rattle.kits.specs.CommonRises.{common_monotone, common_bounded};
 
 use kit::question::{Kit, Ports};
 use kit::signal::{Cell, Inputs, Signal, shown, taking};
@@ -45,11 +42,9 @@ fn default<V: Copy>(inputs: Inputs<V>) -> Signal<V>
 impl<V: Copy> Kit<V> for CommonKit {
     ghost meaning = { λ _. common };
 
-    ghost monotone = { λ k kind parameter cell port.
-        among_rises ((0, among (common_fires cell) unknown kind) ∷ [])
-        (among_rises (common_fires cell) (delay_rises cell, (default_rises, tt)) kind, tt) port };
+    ghost monotone = { λ _. common_monotone };
 
-    ghost bounded = { Prim.search rules };
+    ghost bounded = { λ _. common_bounded V };
 
     fn ports(&self, kind: u8) -> Ports {
         ports_in(&KINDS, kind)

@@ -1,11 +1,8 @@
 // The number kit, over signed 32-bit numbers.
-ghost use Rattle.std.specs.Prelude.{◌≡◌, [], ◌∷◌, ◌+ℤ◌};
-ghost use Rattle.kits.specs.Number.{MeanInWords, held, mean_of, number, number_fires};
+ghost use Rattle.std.specs.Prelude.{◌≡◌, ◌+ℤ◌};
+ghost use Rattle.kits.specs.Number.{MeanInWords, held, mean_of, number};
 ghost use Rattle.kits.specs.Number.{sum_fires, mean_fires, choose_fires, count_fires};
-ghost use Rattle.kit.specs.Tables.{among, unknown};
-ghost use Rattle.kit.proofs.Rising.{among_rises};
-ghost use Rattle.kits.specs.NumberRises.{constant_rises, sum_rises, mean_rises, choose_rises, count_rises};
-ghost use Rattle.std.proofs.Common.{rules};
+ghost use Rattle.kits.specs.NumberRises.{number_monotone, number_bounded};
 
 use kit::question::{Kit, Ports};
 use kit::signal::{Cell, Inputs, Signal, taking, together};
@@ -125,11 +122,9 @@ fn count(cell: Cell<i32>, inputs: Inputs<i32>) -> Signal<i32>
 impl Kit<i32> for NumberKit {
     ghost meaning = { λ _. number };
 
-    ghost monotone = { λ k kind parameter cell port.
-        among_rises ((0, among (number_fires parameter cell) unknown kind) ∷ [])
-        (among_rises (number_fires parameter cell) (constant_rises parameter, (sum_rises, (mean_rises, (choose_rises, (count_rises cell, tt))))) kind, tt) port };
+    ghost monotone = { λ _. number_monotone };
 
-    ghost bounded = { Prim.search rules };
+    ghost bounded = { λ _. number_bounded };
 
     fn ports(&self, kind: u8) -> Ports {
         ports_in(&KINDS, kind)

@@ -1,10 +1,7 @@
 // The switch kit, over yes and no.
-ghost use Rattle.std.specs.Prelude.{◌≡◌, [], ◌∷◌};
-ghost use Rattle.kits.specs.Switch.{switch, and_fires, or_fires, not_fires, carry_fires, parity_fires, switch_fires, second_fires};
-ghost use Rattle.kit.specs.Tables.{among, unknown};
-ghost use Rattle.kit.proofs.Rising.{among_rises};
-ghost use Rattle.kits.specs.SwitchRises.{switch_constant_rises, and_rises, or_rises, not_rises, carry_rises, parity_rises};
-ghost use Rattle.std.proofs.Common.{rules};
+ghost use Rattle.std.specs.Prelude.{◌≡◌};
+ghost use Rattle.kits.specs.Switch.{switch, and_fires, or_fires, not_fires, carry_fires, parity_fires};
+ghost use Rattle.kits.specs.SwitchRises.{switch_monotone, switch_bounded};
 
 use kit::question::{Kit, Ports};
 use kit::signal::{Cell, Inputs, Signal, together};
@@ -118,13 +115,9 @@ fn parity(inputs: Inputs<bool>) -> Signal<bool>
 impl Kit<bool> for SwitchKit {
     ghost meaning = { λ _. switch };
 
-    ghost monotone = { λ k kind parameter cell port.
-        among_rises ((0, among (switch_fires parameter) unknown kind) ∷ (1, among second_fires unknown kind) ∷ []) (
-          among_rises (switch_fires parameter) (switch_constant_rises parameter, (and_rises, (or_rises, (not_rises, (carry_rises, tt))))) kind,
-          (among_rises second_fires (parity_rises, tt) kind, tt),
-        ) port };
+    ghost monotone = { λ _. switch_monotone };
 
-    ghost bounded = { Prim.search rules };
+    ghost bounded = { λ _. switch_bounded };
 
     fn ports(&self, kind: u8) -> Ports {
         ports_in(&KINDS, kind)

@@ -1,7 +1,6 @@
 // What a type of value needs to be read and printed: which numbers stand for its values.
-ghost use Rattle.std.specs.Prelude.{◌≡◌, Bool, ℤ, Some, Option};
-ghost use Rattle.marks.specs.Values.{switched, switch_number};
-ghost use Rattle.std.proofs.Common.{rules};
+ghost use Rattle.std.specs.Prelude.{◌≡◌, Bool, ℤ, Some, Option, refl};
+ghost use Rattle.marks.specs.Values.{switched, switch_number, switch_back};
 
 pub trait Value: Copy {
     // The value that a number stands for, if it stands for one.
@@ -26,7 +25,7 @@ impl Value for i32 {
 
     ghost numbered = { λ v. v };
 
-    ghost back = { Prim.search rules };
+    ghost back = { λ _. refl };
 
     fn of(number: i32) -> Option<i32> {
         Some(number)
@@ -43,7 +42,7 @@ impl Value for bool {
 
     ghost numbered = { switch_number };
 
-    ghost back = { Prim.search rules };
+    ghost back = { switch_back };
 
     fn of(number: i32) -> Option<bool> {
         match number {

@@ -1,12 +1,9 @@
 // A kit of another shop: two kinds over signed 32-bit numbers, and the kit that it sells.
 #![tactic(auto)]
 
-ghost use Rattle.std.specs.Prelude.{◌≡◌, [], ◌∷◌};
-ghost use Rattle.shop_kit.specs.Shop.{shop, sold, larger_fires, interlock_fires, shop_fires};
-ghost use Rattle.kit.specs.Tables.{among, unknown};
-ghost use Rattle.kit.proofs.Rising.{among_rises};
-ghost use Rattle.shop_kit.specs.ShopRises.{larger_rises, interlock_rises};
-ghost use Rattle.std.proofs.Common.{rules};
+ghost use Rattle.std.specs.Prelude.{◌≡◌};
+ghost use Rattle.shop_kit.specs.Shop.{shop, sold, larger_fires, interlock_fires};
+ghost use Rattle.shop_kit.specs.ShopRises.{shop_monotone, shop_bounded};
 
 use kit::joined::Joined;
 use kit::question::{Kit, Ports};
@@ -60,9 +57,9 @@ fn interlock(inputs: Inputs<i32>) -> Signal<i32>
 impl Kit<i32> for ShopKit {
     ghost meaning = { λ _. shop };
 
-    ghost monotone = { λ k kind parameter cell port. among_rises ((0, among shop_fires unknown kind) ∷ []) (among_rises shop_fires (larger_rises, (interlock_rises, tt)) kind, tt) port };
+    ghost monotone = { λ _. shop_monotone };
 
-    ghost bounded = { Prim.search rules };
+    ghost bounded = { λ _. shop_bounded };
 
     fn ports(&self, kind: u8) -> Ports {
         ports_in(&KINDS, kind)
