@@ -7,7 +7,7 @@ use Rattle.text.specs.declared.fault.Fault.{Fault}
 abbrev pub number_of : Cause → ℕ
 -- a field has not the form that its position asks; line, field
 number_of Form = 1
--- a well_formed number is outside its range; line, field
+-- a well-formed number is outside its range; line, field
 number_of Range = 2
 -- a line has the wrong number of fields, or no line feed (0 fields); line, fields found
 number_of FieldCount = 3

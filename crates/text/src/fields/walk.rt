@@ -2,7 +2,7 @@
 ghost use Rattle.std.specs.Prelude.{◌≡◌, length};
 ghost use Rattle.text.specs.Walk.{fields_in, Begins, next_field, Moved, at_last, word_in, empty_in};
 ghost use Rattle.text.specs.Numerals.{number_in, integer_in};
-ghost use Rattle.text.specs.Results.{fault as the-fault};
+ghost use Rattle.text.specs.Results.{fault as the_fault};
 
 use crate::cut::{bytes_before, count_pieces};
 use crate::fault::{Cause, Fault};
@@ -47,7 +47,7 @@ impl<'a> Fields<'a> {
 
     // A fault at the field last taken.
     pub fn fault(&self, cause: Cause) -> Fault
-        ensures { result ≡ the-fault cause self.now.number self.now.taken }
+        ensures { result ≡ the_fault cause self.now.number self.now.taken }
     {
         Fault {
             cause,
