@@ -1,5 +1,6 @@
 -- Answers that rise with the inputs: strict kinds, and tables of kinds.
 use Rattle.std.proofs.Common.{◌≡◌, ℕ, Bool, true, false, cond, ◌||◌, eqb, List, [], ◌∷◌, sym, refl, subst}
+use Rattle.std.proofs.lemmas.Bool.{cond_both}
 use Rattle.kit.specs.declared.signal.Signal.{Signal}
 use Rattle.kit.specs.declared.signal.Signal.TheVariants.{Unknown, Absent, Present}
 use Rattle.kit.specs.declared.signal.Inputs.{Inputs}
@@ -29,15 +30,11 @@ abbrev pub Each : {A : Type 0} → (A → Type 0) → List (ℕ × A) → Type 0
 Each P [] = Unit {0}
 Each P (entry ∷ rest) = P entry.1 × Each P rest
 
-chosen : {A : Type 0} (P : A → Type 0) (b : Bool) (x y : A) → P x → P y → P (cond b x y)
-chosen P true x y h k = h
-chosen P false x y h k = k
-
 -- holds of the answer that the table gives
 pub among_each : {A : Type 0} (P : A → Type 0) (rows : List (ℕ × A)) (other : A) → Each P rows → P other → (n : ℕ) → P (among rows other n)
 among_each P [] other h k n = k
 among_each P (entry ∷ rest) other h k n =
-    chosen P (eqb n entry.0) entry.1 (among rest other n) h.0 (among_each P rest other h.1 k n)
+    cond_both (eqb n entry.0) entry.1 (among rest other n) P (λ _. h.0) (λ _. among_each P rest other h.1 k n)
 
 -- a table whose answers all rise gives one that rises
 pub among_rises : {V : Type 0} (rows : List (ℕ × (Inputs V → Signal V))) → Each Rises rows → (n : ℕ) → Rises (among rows unknown n)

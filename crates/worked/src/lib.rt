@@ -1,4 +1,4 @@
-// Worked cases of the definitions: what the rules' page says in numbers, proved of the kits and of the machine.
+// Worked cases of the definitions: what docs/RULES.md says in numbers, proved of the kits and of the machine.
 #![tactic(auto)]
 
 ghost use Rattle.worked.specs.EightCases.{EightCases};
