@@ -1,12 +1,13 @@
 -- A tick line, field by field.
-use Rattle.std.proofs.Common.{◌≡◌, ℕ, suc, ◌+◌, cond, eqb, List, [], ◌∷◌, ◌++◌, length, ℤ, Ok, Err, codes, Option, Result, sym, refl, ap, ◌∙◌}
+use Rattle.std.proofs.Common.{◌≡◌, ℕ, suc, ◌+◌, Bool, true, false, cond, eqb, List, [], ◌∷◌, ◌++◌, length, ℤ, Ok, Err, codes, Option, Result, sym, refl, ap, ◌∙◌}
 use Rattle.std.proofs.lemmas.List.{append_assoc, append-nil}
-use Rattle.std.proofs.lemmas.Bool.{cond-true, cond-false, eq-eqb, ne_eqb}
+use Rattle.std.proofs.lemmas.Bool.{eqb-true}
 use Rattle.text.specs.declared.fault.Cause.TheVariants.{FieldCount}
 use Rattle.text.specs.declared.fault.Fault.{Fault}
 use Rattle.text.specs.Pieces.{field}
 use Rattle.text.specs.Results.{then, mapped, placed, fault}
 use Rattle.text.specs.Walk.{word_in}
+use Rattle.text.proofs.ResultLaws.{passed}
 use Rattle.machine.specs.declared.answers.Given.{Given}
 use Rattle.marks.specs.Marks.{input_in}
 use Rattle.bench.specs.TickLines.{inputs_in, tick_line}
@@ -39,6 +40,10 @@ module _ {V : Type 0} (valued : ℤ → Option V) (k : ℕ) (fs : List (List ℕ
   one_refused j n gs f bad = ap (ahead gs) (next_in j n ∙ ap (λ r. then r (λ x. mapped (λ hs. x ∷ hs) (inputs_in valued k (j + 1) n fs))) bad)
 
   module _ (e : ℕ) where
+    -- whether the line has a field for its word and for each input
+    abbrev pub enough : Result (Unit {0}) Fault
+    enough = cond (eqb (length fs) (e + 1)) (Ok tt) (Err (fault FieldCount k (length fs)))
+
     abbrev counted : Result (List (Option (Given V))) Fault
     counted = cond (eqb (length fs) (e + 1)) (inputs_in valued k 1 e fs) (Err (fault FieldCount k (length fs)))
 
@@ -49,11 +54,12 @@ module _ {V : Type 0} (valued : ℤ → Option V) (k : ℕ) (fs : List (List ℕ
     pub other_word : (f : Fault) → placed k 1 (word_in (codes "tick") (field fs 0)) ≡ Err f → tick_line valued k e fs ≡ Err f
     other_word f bad = begins ∙ ap (λ r. then r (λ _. counted)) bad
 
-    tick_word : (u : Unit {0}) → placed k 1 (word_in (codes "tick") (field fs 0)) ≡ Ok u → tick_line valued k e fs ≡ counted
-    tick_word u ok = begins ∙ ap (λ r. then r (λ _. counted)) ok
+    first_counted : (b : Bool) (r : Result (List (Option (Given V))) Fault) (f : Fault) → cond b r (Err f) ≡ then {A = Unit {0}} (cond b (Ok tt) (Err f)) (λ _. r)
+    first_counted true r f = refl
+    first_counted false r f = refl
 
-    pub other_count : (u : Unit {0}) → placed k 1 (word_in (codes "tick") (field fs 0)) ≡ Ok u → (length fs ≡ e + 1 → ⊥) → tick_line valued k e fs ≡ Err (fault FieldCount k (length fs))
-    other_count u ok ne = tick_word u ok ∙ cond-false (eqb (length fs) (e + 1)) (inputs_in valued k 1 e fs) (Err (fault FieldCount k (length fs))) (ne_eqb (length fs) (e + 1) ne)
+    pub after_word : (u : Unit {0}) → placed k 1 (word_in (codes "tick") (field fs 0)) ≡ Ok u → tick_line valued k e fs ≡ then enough (λ _. inputs_in valued k 1 e fs)
+    after_word u ok = begins ∙ ap (λ r. then r (λ _. counted)) ok ∙ first_counted (eqb (length fs) (e + 1)) (inputs_in valued k 1 e fs) (fault FieldCount k (length fs))
 
-    pub right_count : (u : Unit {0}) → placed k 1 (word_in (codes "tick") (field fs 0)) ≡ Ok u → length fs ≡ e + 1 → tick_line valued k e fs ≡ inputs_in valued k 1 e fs
-    right_count u ok is = tick_word u ok ∙ cond-true (eqb (length fs) (e + 1)) (inputs_in valued k 1 e fs) (Err (fault FieldCount k (length fs))) (eq-eqb (length fs) (e + 1) is)
+    pub right_count : (u : Unit {0}) → enough ≡ Ok u → length fs ≡ e + 1
+    right_count u ok = eqb-true (length fs) (e + 1) (passed (eqb (length fs) (e + 1)) (Ok tt) (fault FieldCount k (length fs)) u ok).0

@@ -1,11 +1,10 @@
 -- A list, from its diagram to its run.
-use Rattle.std.proofs.Common.{◌≡◌, ℕ, List, length, ℤ, Ok, Err, Option, sym, ap, ◌∙◌}
+use Rattle.std.proofs.Common.{◌≡◌, ℕ, List, length, ℤ, Ok, Err, Option, sym, ap, ◌∙◌, None}
 use Rattle.std.proofs.lemmas.List.{length-replicate}
 use Rattle.text.specs.declared.fault.Fault.{Fault}
 use Rattle.kit.specs.declared.signal.Signal.{Signal}
 use Rattle.kit.specs.declared.signal.Signal.TheVariants.{Unknown}
-use Rattle.kit.specs.declared.signal.Cell.{Cell}
-use Rattle.kit.specs.declared.signal.Cell.TheVariants.{Empty}
+use Rattle.kit.specs.Cells.{Cell}
 use Rattle.kit.specs.Meaning.{Meaning}
 use Rattle.draft.specs.Drawings.{Drawing}
 use Rattle.machine.specs.Machine.{check_new, made_from}
@@ -18,7 +17,7 @@ module _ {V : Type 0} (valued : ℤ → Option V) (m : Meaning V) where
     unfolding run_of
     begins =
         let as_wide : length (lent_wires {V = V} d) ≡ length wires = length-replicate d.wires Unknown ∙ sym w in
-        let as_many : length (lent_cells {V = V} d) ≡ length cells = length-replicate (length d.blocks) Empty ∙ sym c in
+        let as_many : length (lent_cells {V = V} d) ≡ length cells = length-replicate (length d.blocks) None ∙ sym c in
         λ i. made valued m d k lines (check_new m d (as_wide i) (as_many i))
 
     pub run_refused : (f : Fault) → check_new m d (length wires) (length cells) ≡ Err f → run_of valued m d k lines ≡ refused_by f
@@ -28,7 +27,7 @@ module _ {V : Type 0} (valued : ℤ → Option V) (m : Meaning V) where
     run_made u ok =
         let fresh : made_from (check_new m d (length wires) (length cells)) m d 0 wires cells ≡ made_from (Ok tt) m d 0 wires cells = ap (λ r. made_from r m d 0 wires cells) ok in
         let lent : length (lent_wires {V = V} d) ≡ length wires = length-replicate d.wires Unknown ∙ sym w in
-        let kept : length (lent_cells {V = V} d) ≡ length cells = length-replicate (length d.blocks) Empty ∙ sym c in
+        let kept : length (lent_cells {V = V} d) ≡ length cells = length-replicate (length d.blocks) None ∙ sym c in
         let good : check_new m d (length (lent_wires {V = V} d)) (length (lent_cells {V = V} d)) ≡ Ok tt = (λ i. check_new m d (lent i) (kept i)) ∙ ok in
         begins ∙ ap (made valued m d k lines) ok
         ∙ ap (λ r. ticks_of valued m d (made_from r m d 0 (lent_wires d) (lent_cells d)) k lines) good

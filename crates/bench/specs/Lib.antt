@@ -1,3 +1,4 @@
+pub mod Inputs
 pub mod Lists
 pub mod Steps
 pub mod Telling

@@ -9,8 +9,7 @@ use Rattle.text.specs.Pieces.{pieces, fields_of}
 use Rattle.text.specs.Results.{fault}
 use Rattle.kit.specs.declared.signal.Signal.{Signal}
 use Rattle.kit.specs.declared.signal.Signal.TheVariants.{Unknown}
-use Rattle.kit.specs.declared.signal.Cell.{Cell}
-use Rattle.kit.specs.declared.signal.Cell.TheVariants.{Empty}
+use Rattle.kit.specs.Cells.{Cell}
 use Rattle.kit.specs.Meaning.{Meaning}
 use Rattle.draft.specs.Drawings.{Drawing}
 use Rattle.diagram.specs.Reading.{read_of}
@@ -89,7 +88,7 @@ abbrev pub lent_wires : {V : Type 0} → Drawing → List (Signal V)
 lent_wires d = replicate d.wires Unknown
 
 abbrev pub lent_cells : {V : Type 0} → Drawing → List (Cell V)
-lent_cells d = replicate (length d.blocks) Empty
+lent_cells d = replicate (length d.blocks) None
 
 -- the run is made before a tick line is looked at
 abbrev pub made : {V : Type 0} → (ℤ → Option V) → Meaning V → Drawing → ℕ → List (List ℕ) → Result (Unit {0}) Fault → Listed V

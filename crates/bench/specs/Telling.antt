@@ -1,7 +1,7 @@
 -- What a list tells, in the subject's terms.
 use Rattle.std.specs.Prelude.{◌≡◌, ℕ, ◌+◌, List, [], ◌∷◌, ℤ, Ok, Option}
 use Rattle.text.specs.Pieces.{fields_of}
-use Rattle.kit.specs.declared.signal.Cell.{Cell}
+use Rattle.kit.specs.Cells.{Cell}
 use Rattle.kit.specs.Meaning.{Meaning}
 use Rattle.draft.specs.Drawings.{Drawing}
 use Rattle.machine.specs.declared.answers.Given.{Given}

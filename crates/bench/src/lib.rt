@@ -2,6 +2,7 @@
 #![tactic(auto)]
 
 pub mod cut;
+pub mod input;
 mod line;
 pub mod list;
 mod ticks;

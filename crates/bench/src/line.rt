@@ -1,4 +1,4 @@
-// A tick line: the word, then a field for each input wire.
+// A tick line: the word, then a field for each input wire. At which field a function begins is its clause, since it moves on.
 ghost use Rattle.std.specs.Prelude.{◌≡◌, ◌+◌, length};
 ghost use Rattle.text.specs.Pieces.{fields_of};
 ghost use Rattle.text.specs.Results.{mapped};
@@ -9,7 +9,7 @@ ghost use Rattle.bench.specs.TickLines.{tick_line, inputs_in, Into};
 use machine::answers::Given;
 use marks::mark::input;
 use marks::value::Value;
-use text::fault::{Cause, Fault};
+use text::fault::Fault;
 use text::fields::Fields;
 
 // The fields after the word of a line that has one for each input.
@@ -36,13 +36,6 @@ pub(crate) fn read_tick<V: Value>(
 {
     let mut fields = Fields::of(line, number);
     fields.next_word(b"tick")?;
-    let count = fields.count();
-    if count - 1 != inputs.len() {
-        return Err(Fault {
-            cause: Cause::FieldCount,
-            first: number,
-            second: count,
-        });
-    }
+    fields.expect_count(inputs.len() + 1)?;
     read_inputs(&mut fields, inputs)
 }

@@ -1,4 +1,4 @@
-// Playing a list.
+// Playing a list. Run, tables and inputs are lent apart, as in `ticks`.
 ghost use Rattle.std.specs.Prelude.{◌≡◌, ◌+◌, ◌≤◌, ◌++◌, length, string_bytes, OnOk};
 ghost use Rattle.text.specs.LineWalk.{lines_left};
 ghost use Rattle.text.specs.Results.{mapped};
@@ -13,10 +13,10 @@ use kit::question::Kit;
 use kit::signal::{Cell, Signal};
 use machine::answers::Given;
 use marks::value::Value;
-use profile::input::MOST_BYTES;
+use profile::input::within_limit;
 use run::run::Run;
 use std::alloc::{AllocError, Allocator};
-use text::fault::{Cause, Fault};
+use text::fault::Fault;
 use text::lines::Lines;
 
 // The diagram of an input, whose text has so many bytes.
@@ -24,15 +24,9 @@ fn read_diagram(input: &[u8], bytes: usize) -> Result<Diagram, Fault>
     requires { bytes ≤ length input.now }
     ensures { mapped drawing result ≡ drawn input.now bytes }
 {
-    if input.len() > MOST_BYTES {
-        return Err(Fault {
-            cause: Cause::LongInput,
-            first: 0,
-            second: 0,
-        });
-    }
+    within_limit(input)?;
     let mut diagram = Diagram::empty();
-    diagram.read(&input[0..bytes])?;
+    diagram.read(&input[..bytes])?;
     Ok(diagram)
 }
 
@@ -66,9 +60,9 @@ fn play_lines<V: Value + Clone, K: Kit<V>, A: Allocator + Copy>(
 ) -> Result<(), AllocError>
     ensures { OnOk result (string_bytes out.new ≡ string_bytes out.old ++ printed V.Value.numbered (run_of V.Value.valued (K.Kit.meaning kit.now) (drawing diagram.now) (lines.old.taken + 1) (lines_left lines.old))) }
 {
-    let mut wires = vec![in heap; Signal::Unknown; diagram.wires() as usize]?;
-    let mut cells = vec![in heap; Cell::Empty; diagram.blocks().len()]?;
-    let mut inputs = vec![in heap; None; diagram.inputs() as usize]?;
+    let mut wires = vec![in heap; Signal::Unknown; usize::from(diagram.wires())]?;
+    let mut cells = vec![in heap; None; diagram.blocks().len()]?;
+    let mut inputs = vec![in heap; None; usize::from(diagram.inputs())]?;
     play_run(
         kit,
         diagram,

@@ -1,4 +1,5 @@
-// Playing the tick lines of a list.
+// Playing the tick lines of a list. The run and the inputs are lent apart: from a struct that holds both borrows the
+// checker does not lend the one while the other is written.
 ghost use Rattle.std.specs.Prelude.{◌≡◌, ◌+◌, ◌++◌, length, string_bytes, OnOk};
 ghost use Rattle.text.specs.LineWalk.{lines_left};
 ghost use Rattle.run.specs.Runs.{state_of, drawing_of_run};

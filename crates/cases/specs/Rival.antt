@@ -1,8 +1,7 @@
 -- A kit whose one kind, 17, is the constant 9.
-use Rattle.std.specs.Prelude.{ℕ, List, [], ◌∷◌, ℤ, pos, refl}
+use Rattle.std.specs.Prelude.{ℕ, List, [], ◌∷◌, ℤ, pos, refl, None, Some}
 use Rattle.kit.specs.declared.signal.Signal.{Signal}
 use Rattle.kit.specs.declared.signal.Signal.TheVariants.{Present}
-use Rattle.kit.specs.declared.signal.Cell.TheVariants.{Empty, Holds}
 use Rattle.kit.specs.declared.signal.Inputs.{Inputs}
 use Rattle.kit.specs.Meaning.{Meaning, Monotone, Bounded}
 use Rattle.kit.specs.Tables.{among, row, ports_in, unknown}
@@ -18,9 +17,9 @@ rival_fires = (17, nine_fires) ∷ []
 abbrev pub rival : Meaning ℤ
 rival = record {
   ports = ports_in (row 17 0 1 ∷ []);
-  start = λ kind parameter. among ((17, Holds (pos 9)) ∷ []) Empty kind;
+  start = λ kind parameter. among ((17, Some (pos 9)) ∷ []) None kind;
   fire = λ kind parameter cell port. among ((0, among rival_fires unknown kind) ∷ []) unknown port;
-  next = λ kind parameter cell i. among ((17, Holds (pos 9)) ∷ []) cell kind;
+  next = λ kind parameter cell i. among ((17, Some (pos 9)) ∷ []) cell kind;
 }
 
 -- both laws

@@ -1,43 +1,16 @@
 // What the kits of the benches answer to a question that stands in words: the bench's kit, the question and the kind,
 // then the question's further arguments.
 use crate::rival::Rival;
+use case_table::kept::Kept;
 use kit::joined::Joined;
-use kit::question::{Kit, Ports};
+use kit::question::{BlockView, Kit, Ports};
 use kit::signal::{Cell, Inputs, Signal};
 use kits::bench_kits::{number_bench_kit, switch_bench_kit};
 use kits::number::NumberKit;
+use marks::mark::{Mark, input};
+use marks::value::Value;
 use std::alloc::{AllocError, Global};
-
-// A value as it stands in the table: a number as itself, no as 0 and yes as 1.
-trait Value: Copy {
-    fn of(number: i32) -> Option<Self>;
-
-    fn number(self) -> i32;
-}
-
-impl Value for i32 {
-    fn of(number: i32) -> Option<i32> {
-        Some(number)
-    }
-
-    fn number(self) -> i32 {
-        self
-    }
-}
-
-impl Value for bool {
-    fn of(number: i32) -> Option<bool> {
-        match number {
-            0 => Some(false),
-            1 => Some(true),
-            _ => None,
-        }
-    }
-
-    fn number(self) -> i32 {
-        if self { 1 } else { 0 }
-    }
-}
+use std::fmt;
 
 // What the four questions answer; start and next alike give a cell.
 #[derive(Drop)]
@@ -47,34 +20,46 @@ enum Reply<V> {
     Output(Signal<V>),
 }
 
-fn read_value<V: Value>(word: &str) -> Option<V> {
-    V::of(word.parse::<i32>().ok()?)
-}
-
-fn read_cell<V: Value>(word: &str) -> Option<Cell<V>> {
-    match word {
-        "-" => Some(Cell::Empty),
-        _ => Some(Cell::Holds(read_value(word)?)),
+impl<V: Value> fmt::Display for Reply<V> {
+    fn fmt<W: fmt::Write>(&self, f: &mut fmt::Formatter<W>) -> fmt::Result {
+        match self {
+            Reply::Counts(Ports { inputs, outputs }) => write!(f, "{inputs},{outputs}"),
+            Reply::State(cell) => write!(f, "{}", Kept { cell: *cell }),
+            Reply::Output(signal) => write!(f, "{}", Mark { signal: *signal }),
+        }
     }
 }
 
 fn read_signal<V: Value>(word: &str) -> Option<Signal<V>> {
+    let given = input(word.as_bytes()).ok()?;
+    Some(given.map_or(Signal::Unknown, Signal::from))
+}
+
+fn read_cell<V: Value>(word: &str) -> Option<Cell<V>> {
     match word {
-        "?" => Some(Signal::Unknown),
-        "." => Some(Signal::Absent),
-        _ => Some(Signal::Present(read_value(word)?)),
+        "-" => Some(None),
+        _ => Some(Some(V::of(word.parse().ok()?)?)),
     }
 }
 
-fn read_inputs<V: Value>(a: &str, b: &str, c: &str) -> Option<Inputs<V>> {
-    Some(Inputs {
+// A block of this kind from its parameter, its cell and its three input signals.
+fn read_block<V: Value>(kind: u8, words: [&str; 5]) -> Option<BlockView<V>> {
+    let [parameter, cell, a, b, c] = words;
+    let inputs = Inputs {
         a: read_signal(a)?,
         b: read_signal(b)?,
         c: read_signal(c)?,
+    };
+    Some(BlockView {
+        kind,
+        parameter: parameter.parse().ok()?,
+        cell: read_cell(cell)?,
+        inputs,
     })
 }
 
-// For each question its answer, None where its arguments are ill-formed.
+// For each question its answer, None where its arguments are ill-formed. A `match` on the word chooses the question: each
+// has arguments of its own, and a table of functions would hide which.
 fn ask_ports<V: Value, K: Kit<V>>(kit: &K, kind: u8, arguments: &[&str]) -> Option<Reply<V>> {
     match arguments {
         [] => Some(Reply::Counts(kit.ports(kind))),
@@ -91,24 +76,19 @@ fn ask_start<V: Value, K: Kit<V>>(kit: &K, kind: u8, arguments: &[&str]) -> Opti
 }
 
 fn ask_fire<V: Value, K: Kit<V>>(kit: &K, kind: u8, arguments: &[&str]) -> Option<Reply<V>> {
-    let [parameter, state, port, a, b, c] = arguments else {
+    let [parameter, cell, port, a, b, c] = arguments else {
         return None;
     };
-    let parameter = parameter.parse::<i32>().ok()?;
-    let state = read_cell(state)?;
-    let port = port.parse::<u8>().ok()?;
-    let inputs = read_inputs(a, b, c)?;
-    Some(Reply::Output(kit.fire(kind, parameter, state, port, inputs)))
+    let block = read_block(kind, [parameter, cell, a, b, c])?;
+    Some(Reply::Output(kit.fire(&block, port.parse().ok()?)))
 }
 
 fn ask_next<V: Value, K: Kit<V>>(kit: &K, kind: u8, arguments: &[&str]) -> Option<Reply<V>> {
-    let [parameter, state, a, b, c] = arguments else {
+    let [parameter, cell, a, b, c] = arguments else {
         return None;
     };
-    let parameter = parameter.parse::<i32>().ok()?;
-    let state = read_cell(state)?;
-    let inputs = read_inputs(a, b, c)?;
-    Some(Reply::State(kit.next(kind, parameter, state, inputs)))
+    let block = read_block(kind, [parameter, cell, a, b, c])?;
+    Some(Reply::State(kit.next(&block)))
 }
 
 fn ask<V: Value, K: Kit<V>>(kit: &K, words: &[&str]) -> Option<Reply<V>> {
@@ -125,52 +105,28 @@ fn ask<V: Value, K: Kit<V>>(kit: &K, words: &[&str]) -> Option<Reply<V>> {
     }
 }
 
-fn in_words<V: Value>(heap: Global, reply: Option<Reply<V>>) -> Result<String, AllocError> {
-    match reply {
-        Some(Reply::Counts(ports)) => {
-            let inputs = ports.inputs;
-            let outputs = ports.outputs;
-            format!(in heap; "{inputs},{outputs}")
-        }
-        Some(Reply::State(Cell::Holds(v))) | Some(Reply::Output(Signal::Present(v))) => {
-            let number = v.number();
-            format!(in heap; "{number}")
-        }
-        Some(Reply::State(Cell::Empty)) => String::from_str(heap, "-"),
-        Some(Reply::Output(Signal::Unknown)) => String::from_str(heap, "?"),
-        Some(Reply::Output(Signal::Absent)) => String::from_str(heap, "."),
+fn told<V: Value, K: Kit<V>>(heap: Global, kit: &K, words: &[&str]) -> Result<String, AllocError> {
+    match ask(kit, words) {
+        Some(reply) => format!(in heap; "{reply}"),
         None => String::from_str(heap, "ill-formed question"),
     }
 }
 
 pub(crate) fn answer(heap: Global, question: &str) -> Result<String, AllocError> {
-    let mut words = Vec::new(heap);
-    for word in question.split(' ') {
-        words.push(word)?;
-    }
+    let words = question.split(' ').collect::<Vec<&str>>(heap)?;
+    let number_first = Joined {
+        first: NumberKit,
+        second: Rival,
+    };
+    let rival_first = Joined {
+        first: Rival,
+        second: NumberKit,
+    };
     match words.as_slice() {
-        ["number", rest @ ..] => in_words(heap, ask::<i32, _>(&number_bench_kit(), rest)),
-        ["number-rival", rest @ ..] => in_words(
-            heap,
-            ask::<i32, _>(
-                &Joined {
-                    first: NumberKit,
-                    second: Rival,
-                },
-                rest,
-            ),
-        ),
-        ["rival-number", rest @ ..] => in_words(
-            heap,
-            ask::<i32, _>(
-                &Joined {
-                    first: Rival,
-                    second: NumberKit,
-                },
-                rest,
-            ),
-        ),
-        ["switch", rest @ ..] => in_words(heap, ask::<bool, _>(&switch_bench_kit(), rest)),
+        ["number", rest @ ..] => told::<i32, _>(heap, &number_bench_kit(), rest),
+        ["number-rival", rest @ ..] => told::<i32, _>(heap, &number_first, rest),
+        ["rival-number", rest @ ..] => told::<i32, _>(heap, &rival_first, rest),
+        ["switch", rest @ ..] => told::<bool, _>(heap, &switch_bench_kit(), rest),
         _ => String::from_str(heap, "ill-formed question"),
     }
 }

@@ -1,47 +1,40 @@
 // The bytes of a text in which `\n` is a line feed, `\\` a backslash, and `\xHH` the byte of that number.
-use std::alloc::{AllocError, Global};
+ghost use Rattle.std.specs.Prelude.{◌<◌, ◌≤◌, length};
+ghost use Rattle.std.specs.Str.Iter.{bytes_rest};
 
-#[derive(Clone, Copy)]
-enum Escape {
-    None,
-    Begun,
-    High,
-    Low(u8),
+use std::alloc::{AllocError, Global};
+use std::str::Bytes;
+
+fn hex_value(b: u8) -> u32
+    ensures { result < 16 }
+{
+    char::from(b).to_digit(16).unwrap_or(0)
 }
 
-fn hex_value(b: u8) -> u8 {
-    match b {
-        b'0'..=b'9' => b - b'0',
-        b'a'..=b'f' => b - b'a' + 10,
-        _ => 0,
+// The byte that stands after a backslash.
+fn escaped(bytes: &mut Bytes<'_>) -> Option<u8>
+    ensures { length (bytes_rest bytes.new) ≤ length (bytes_rest bytes.old) }
+{
+    match bytes.next()? {
+        b'x' => {
+            let high = hex_value(bytes.next()?);
+            let low = hex_value(bytes.next()?);
+            Some((16 * high + low) as u8)
+        }
+        b'n' => Some(b'\n'),
+        b => Some(b),
     }
 }
 
 pub(crate) fn unescaped(heap: Global, text: &str) -> Result<Vec<u8>, AllocError> {
-    let mut bytes = Vec::new(heap);
-    let mut escape = Escape::None;
-    for b in text.bytes() {
-        escape = match (escape, b) {
-            (Escape::None, b'\\') => Escape::Begun,
-            (Escape::None, _) => {
-                bytes.push(b)?;
-                Escape::None
-            }
-            (Escape::Begun, b'x') => Escape::High,
-            (Escape::Begun, b'n') => {
-                bytes.push(b'\n')?;
-                Escape::None
-            }
-            (Escape::Begun, _) => {
-                bytes.push(b)?;
-                Escape::None
-            }
-            (Escape::High, _) => Escape::Low(hex_value(b)),
-            (Escape::Low(high), _) => {
-                bytes.push(high.wrapping_mul(16).wrapping_add(hex_value(b)))?;
-                Escape::None
-            }
-        };
+    let mut bytes = text.bytes();
+    let mut found = Vec::new(heap);
+    while let Some(b) = bytes.next() {
+        if b != b'\\' {
+            found.push(b)?;
+        } else if let Some(b) = escaped(&mut bytes) {
+            found.push(b)?;
+        }
     }
-    Ok(bytes)
+    Ok(found)
 }

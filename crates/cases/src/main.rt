@@ -1,5 +1,5 @@
 // Runs the table of cases on standard input against the libraries, and prints each case that went otherwise than
-// its line says. A line has what is tried, a name, what is expected, and what is tried it on, parted by tabs: `read` a
+// its line says. A line has what is tried, a name, what is expected, and what it is tried on, parted by tabs: `read` a
 // diagram's text, or `ask` a kit a question.
 #![tactic(auto)]
 
@@ -9,39 +9,32 @@ mod reading;
 mod rival;
 
 use asking::answer;
+use case_table::table::{Trying, run_table};
 use escaped::unescaped;
 use reading::outcome;
 use std::alloc::{AllocError, Global};
-use std::io::{BufRead, BufReader};
+use std::io;
 
-fn tried(heap: Global, what: &str, on: &str) -> Result<String, AllocError> {
-    match what {
-        "read" => {
-            let text = unescaped(heap, on)?;
-            outcome(heap, text.as_slice())
+// Reading diagrams, and asking kits. A word is matched: a table of functions would be no plainer.
+struct Libraries;
+
+impl Trying for Libraries {
+    fn tried(heap: Global, what: &str, on: &str) -> Result<String, AllocError> {
+        match what {
+            "read" => {
+                let text = unescaped(heap, on)?;
+                outcome(heap, text.as_slice())
+            }
+            "ask" => answer(heap, on),
+            _ => String::from_str(heap, "nothing to try"),
         }
-        "ask" => answer(heap, on),
-        _ => String::from_str(heap, "nothing to try"),
     }
 }
 
 fn main(rt: HostRuntime) -> anyhow::Result<()> {
     let heap = rt.alloc();
-    let mut cases: u64 = 0;
-    let mut wrong: u64 = 0;
-    for line in BufReader::new(heap, rt.stdin())?.lines(heap) {
-        let line = line?;
-        let mut columns = line.as_str().split('\t');
-        let what = columns.next().unwrap_or("");
-        let mut columns = columns.skip(1);
-        let expected = columns.next().unwrap_or("");
-        let found = tried(heap, what, columns.next().unwrap_or(""))?;
-        cases = cases.saturating_add(1);
-        if found.as_str() != expected {
-            wrong = wrong.saturating_add(1);
-            println!(rt; "{line}: found {found}")?;
-        }
-    }
-    println!(rt; "{cases} cases, {wrong} otherwise than expected")?;
+    let table = io::read_to_string(heap, rt.stdin())?;
+    let told = run_table::<Libraries>(heap, table.as_str())?;
+    print!(rt; "{told}")?;
     Ok(())
 }

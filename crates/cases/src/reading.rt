@@ -14,17 +14,11 @@ fn writes_back(heap: Global, diagram: &Diagram, text: &[u8]) -> Result<bool, All
     let mut long = vec![in heap; FILL; len.saturating_add(MORE)]?;
     let written = diagram.write(&mut long);
     let mut kept = text.to_vec(heap)?;
-    for _ in 0..MORE {
-        kept.push(FILL)?;
-    }
+    kept.extend_from_slice(&[FILL; MORE])?;
     let mut short = vec![in heap; FILL; len.saturating_sub(1)]?;
     let refused = diagram.write(&mut short);
     let untouched = vec![in heap; FILL; len.saturating_sub(1)]?;
-    let fault = Fault {
-        cause: Cause::ShortBuffer,
-        first: len,
-        second: len.saturating_sub(1),
-    };
+    let fault = Fault::new(Cause::ShortBuffer, len, len.saturating_sub(1));
     Ok(written == Ok(len) && long == kept && refused == Err(fault) && short == untouched)
 }
 
@@ -43,9 +37,11 @@ pub(crate) fn outcome(heap: Global, text: &[u8]) -> Result<String, AllocError> {
     if !writes_back(heap, &diagram, text)? {
         return String::from_str(heap, "not written back");
     }
-    let inputs = diagram.inputs();
-    let wires = diagram.wires();
-    let blocks = diagram.blocks().len();
-    let length = diagram.text_len();
-    format!(in heap; "ok,{inputs},{wires},{blocks},{length}")
+    format!(in heap;
+        "ok,{},{},{},{}",
+        diagram.inputs(),
+        diagram.wires(),
+        diagram.blocks().len(),
+        diagram.text_len()
+    )
 }

@@ -3,12 +3,14 @@
 ghost use Rattle.std.specs.Prelude.{◌≡◌};
 ghost use Rattle.cases.specs.Rival.{rival, rival_monotone, rival_bounded};
 
-use kit::question::{Kit, Ports};
-use kit::signal::{Cell, Inputs, Signal};
+use kit::question::{BlockView, Kit, Ports};
+use kit::signal::{Cell, Signal};
 use kit::table::{KindPorts, ports_in};
 
+// Its one kind: an enum of one case would be no plainer.
 const NINE: u8 = 17;
 
+// The kinds, as the ports question reads them.
 const KINDS: [KindPorts; 1] = [KindPorts {
     kind: NINE,
     inputs: 0,
@@ -31,36 +33,25 @@ impl Kit<i32> for Rival {
 
     fn start(&self, kind: u8, parameter: i32) -> Cell<i32> {
         match kind {
-            NINE => Cell::Holds(9),
-            _ => Cell::Empty,
+            NINE => Some(9),
+            _ => None,
         }
     }
 
-    fn fire(
-        &self,
-        kind: u8,
-        parameter: i32,
-        cell: Cell<i32>,
-        port: u8,
-        inputs: Inputs<i32>,
-    ) -> Signal<i32>
-        ensures { result ≡ rival.fire kind parameter cell port inputs }
-    {
+    fn fire(&self, block: &BlockView<i32>, port: u8) -> Signal<i32> {
         if port != 0 {
             return Signal::Unknown;
         }
-        match kind {
+        match block.kind {
             NINE => Signal::Present(9),
             _ => Signal::Unknown,
         }
     }
 
-    fn next(&self, kind: u8, parameter: i32, cell: Cell<i32>, inputs: Inputs<i32>) -> Cell<i32>
-        ensures { result ≡ rival.next kind parameter cell inputs }
-    {
-        match kind {
-            NINE => Cell::Holds(9),
-            _ => cell,
+    fn next(&self, block: &BlockView<i32>) -> Cell<i32> {
+        match block.kind {
+            NINE => Some(9),
+            _ => block.cell,
         }
     }
 }

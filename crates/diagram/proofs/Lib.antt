@@ -1,6 +1,5 @@
-pub mod Grows
 pub mod Legibles
+pub mod LineFields
 pub mod MarkLaws
 pub mod ReadLaws
-pub mod TextParts
 pub mod WiringLaws

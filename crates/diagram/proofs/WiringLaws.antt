@@ -50,7 +50,6 @@ record Within (e n : ℕ) (bs : List Block) : Type 0 where
   to : (w : ℕ) → n ≤ w → drivers w bs ≡ 0
 
 ports_only : (e n k : ℕ) (bs : List Block) (u : Unit {0}) → ports_within e n k bs ≡ Ok u → Within e n bs
-unfolding block_within
 ports_only e n k [] u h = record { reads = λ w l. refl; from = λ w l. refl; to = λ w l. refl }
 ports_only e n k (b ∷ bs) u h =
     let here = then_ok (block_within e n k b) _ u h in
@@ -65,7 +64,6 @@ ports_only e n k (b ∷ bs) u h =
     }
 
 ports_all : (e n k : ℕ) (bs : List Block) → Within e n bs → ports_within e n k bs ≡ Ok tt
-unfolding block_within
 ports_all e n k [] h = refl
 ports_all e n k (b ∷ bs) h =
     let read = within_all 0 n k (ins b.inputs) (λ w l. absurd (omega arith)) (λ w l. omega (arith, h.reads w l, times_append w (ins b.inputs) (flat_map (λ c. ins c.inputs) bs))) in
@@ -85,7 +83,6 @@ below_more m n (w ∷ ws) le h = (omega (arith, h.0), below_more m n ws le h.1)
 
 -- so that the wires of every output have a place in the table of marks
 pub outs_below : (e n k most : ℕ) (bs : List Block) (u : Unit {0}) → n ≤ most → ports_within e n k bs ≡ Ok u → (i : ℕ) → i < length bs → Below most (outs (get_or bs i blank).outputs)
-unfolding block_within
 outs_below e n k most [] u le h i l = absurd (omega arith)
 outs_below e n k most (b ∷ bs) u le h zero l =
     let here = then_ok (block_within e n k b) _ u h in

@@ -56,7 +56,7 @@ abbrev pub each_within : ℕ → ℕ → ℕ → List ℕ → Result (Unit {0}) 
 each_within low high k [] = Ok tt
 each_within low high k (w ∷ ws) = cond (nat_le low w && nat_lt w high) (each_within low high k ws) (Err (fault PortOutside k w))
 
-unfoldable pub block_within : ℕ → ℕ → ℕ → Block → Result (Unit {0}) Fault
+abbrev pub block_within : ℕ → ℕ → ℕ → Block → Result (Unit {0}) Fault
 block_within e n k b = then (each_within 0 n k (ins b.inputs)) (λ _. each_within e n k (outs b.outputs))
 
 abbrev pub ports_within : ℕ → ℕ → ℕ → List Block → Result (Unit {0}) Fault

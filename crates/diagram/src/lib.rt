@@ -2,5 +2,6 @@
 #![tactic(auto)]
 
 pub mod diagram;
+mod driven;
 pub mod line;
 pub mod wiring;

@@ -1,48 +1,34 @@
-// The checks of a draft's wiring, one walk over the blocks for each.
-ghost use Rattle.std.specs.Prelude.{◌≡◌, ℕ, ◌-◌, ◌<◌, ◌≤◌, List, [], ◌∷◌, length, slice_index_or};
+// The checks of a draft's wiring.
+ghost use Rattle.std.specs.Prelude.{◌≡◌};
 ghost use Rattle.draft.specs.Drafts.{drawing_of};
-ghost use Rattle.draft.specs.Drawings.{blank};
-ghost use Rattle.draft.specs.Limits.{most_wires};
-ghost use Rattle.diagram.specs.Wiring.{ins, outs, each_within, block_within, ports_within, driven_by, driven_in, all_driven, wiring_of};
-ghost use Rattle.diagram.specs.Marks.{Marked, MarkedBy, Below};
+ghost use Rattle.diagram.specs.Wiring.{ins, outs, each_within, block_within, ports_within, wiring_of};
 
+use crate::driven::Driven;
 use draft::block::{Block, InPorts, OutPorts, Wire};
 use draft::draft::Draft;
-use draft::limits::MOST_WIRES;
 use text::fault::{Cause, Fault};
 
-// Whether a wire is driven, by its number.
-type Marks = [bool; MOST_WIRES as usize];
-
-// A port of block k has to name a wire from low to high - 1.
-fn within(low: Wire, high: Wire, k: usize, w: Wire) -> Result<(), Fault>
-    ensures { result ≡ each_within low high k (w ∷ []) }
+// Ports of block k have to name wires from low to high - 1.
+fn within(low: Wire, high: Wire, k: usize, ports: &[Wire]) -> Result<(), Fault>
+    ensures { result ≡ each_within low high k ports.now }
 {
-    if w < low || w >= high {
-        return Err(Fault {
-            cause: Cause::PortOutside,
-            first: k,
-            second: w as usize,
-        });
+    for w in ports {
+        if !(low..high).contains(w) {
+            return Err(Fault::new(Cause::PortOutside, k, usize::from(*w)));
+        }
     }
     Ok(())
 }
 
+// Input ports may name any wire below high. (One function for both sides would be a trait for the two enums.)
 fn inputs_within(high: Wire, k: usize, ports: InPorts) -> Result<(), Fault>
     ensures { result ≡ each_within 0 high k (ins ports) }
 {
     match ports {
         InPorts::Zero => Ok(()),
-        InPorts::One(a) => within(0, high, k, a),
-        InPorts::Two(a, b) => {
-            within(0, high, k, a)?;
-            within(0, high, k, b)
-        }
-        InPorts::Three(a, b, c) => {
-            within(0, high, k, a)?;
-            within(0, high, k, b)?;
-            within(0, high, k, c)
-        }
+        InPorts::One(a) => within(0, high, k, &[a]),
+        InPorts::Two(a, b) => within(0, high, k, &[a, b]),
+        InPorts::Three(a, b, c) => within(0, high, k, &[a, b, c]),
     }
 }
 
@@ -50,11 +36,8 @@ fn outputs_within(low: Wire, high: Wire, k: usize, ports: OutPorts) -> Result<()
     ensures { result ≡ each_within low high k (outs ports) }
 {
     match ports {
-        OutPorts::One(p) => within(low, high, k, p),
-        OutPorts::Two(p, q) => {
-            within(low, high, k, p)?;
-            within(low, high, k, q)
-        }
+        OutPorts::One(p) => within(low, high, k, &[p]),
+        OutPorts::Two(p, q) => within(low, high, k, &[p, q]),
     }
 }
 
@@ -76,65 +59,6 @@ pub(crate) fn ports_within(inputs: Wire, wires: Wire, blocks: &[Block]) -> Resul
     Ok(())
 }
 
-// Marks the wire that a port of block k drives, unless an earlier port does.
-fn drive(marks: &mut Marks, k: usize, w: Wire) -> Result<(), Fault>
-    requires { w < most_wires }
-    ensures { (driven : List ℕ) → Marked marks.old driven → MarkedBy (driven_by k driven (w ∷ [])) result marks.new }
-{
-    let at = w as usize;
-    if marks[at] {
-        return Err(Fault {
-            cause: Cause::DrivenTwice,
-            first: k,
-            second: at,
-        });
-    }
-    marks[at] = true;
-    Ok(())
-}
-
-fn drive_outputs(marks: &mut Marks, k: usize, ports: OutPorts) -> Result<(), Fault>
-    requires { Below most_wires (outs ports) }
-    ensures { (driven : List ℕ) → Marked marks.old driven → MarkedBy (driven_by k driven (outs ports)) result marks.new }
-{
-    match ports {
-        OutPorts::One(p) => drive(marks, k, p),
-        OutPorts::Two(p, q) => {
-            drive(marks, k, p)?;
-            drive(marks, k, q)
-        }
-    }
-}
-
-// Marks every wire that an output port drives.
-fn mark_driven(blocks: &[Block], marks: &mut Marks) -> Result<(), Fault>
-    requires { (((k : ℕ) → k < length blocks.now → Below most_wires (outs (slice_index_or blocks.now k blank).outputs))) × (Marked marks.old []) }
-    ensures { MarkedBy (driven_in 0 [] blocks.now) result marks.new }
-{
-    for (k, block) in blocks.iter().enumerate() {
-        drive_outputs(marks, k, block.outputs)?;
-    }
-    Ok(())
-}
-
-// Every wire but the inputs has to be driven.
-fn all_driven(count: usize, marks: &Marks, inputs: Wire, wires: Wire) -> Result<(), Fault>
-    requires { wires ≤ most_wires }
-    ensures { (driven : List ℕ) → Marked marks.now driven → result ≡ all_driven count driven inputs (wires - inputs) }
-{
-    for w in inputs..wires {
-        let at = w as usize;
-        if !marks[at] {
-            return Err(Fault {
-                cause: Cause::NotDriven,
-                first: count,
-                second: at,
-            });
-        }
-    }
-    Ok(())
-}
-
 // The three checks, in the order in which their faults are told.
 pub(crate) fn check(draft: &Draft) -> Result<(), Fault>
     ensures { result ≡ wiring_of (drawing_of draft.now) }
@@ -143,7 +67,9 @@ pub(crate) fn check(draft: &Draft) -> Result<(), Fault>
     let wires = draft.wires();
     let blocks = draft.blocks();
     ports_within(inputs, wires, blocks)?;
-    let mut marks: Marks = [false; MOST_WIRES as usize];
-    mark_driven(blocks, &mut marks)?;
-    all_driven(blocks.len(), &marks, inputs, wires)
+    let driven = Driven::of(blocks)?;
+    match driven.first_missing(inputs, wires) {
+        Some(w) => Err(Fault::new(Cause::NotDriven, blocks.len(), usize::from(w))),
+        None => Ok(()),
+    }
 }

@@ -12,8 +12,8 @@ pub mod read;
 pub struct Draft {
     inputs: Wire,
     wires: Wire,
+    // an array with a count, since a draft is `Copy` and an `ArrayVec` is not: the first `count` blocks are drawn
     count: usize,
-    // the first `count` are drawn
     blocks: [Block; MOST_BLOCKS],
     ghost few_inputs: { inputs ≤ most_inputs },
     ghost inputs_among: { inputs ≤ wires },

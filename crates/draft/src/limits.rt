@@ -6,7 +6,7 @@ pub const MOST_INPUTS: Wire = 16;
 // wires, the inputs among them
 pub const MOST_WIRES: Wire = 144;
 // the last wire that a text can name
-pub const LAST_WIRE: u32 = 143;
+pub const LAST_WIRE: u32 = MOST_WIRES as u32 - 1;
 
 pub const MOST_BLOCKS: usize = 64;
 

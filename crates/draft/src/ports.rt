@@ -1,7 +1,8 @@
-// The fields of a block line, from the left; each is refused for its form before its range.
+// The fields of a block line, from the left; each is refused for its form before its range. Each function says at which
+// field it begins: a place that moves on is no invariant of the walk.
 ghost use Rattle.std.specs.Prelude.{◌≡◌, OnOk};
 ghost use Rattle.text.specs.Walk.{fields_in, next_field, Moved, at_last};
-ghost use Rattle.draft.specs.Lines.{wire_in, port_in, third_input, second_input, no_input, in_ports, out_ports};
+ghost use Rattle.draft.specs.Lines.{port_in, third_input, second_input, no_input, in_ports, out_ports};
 ghost use Rattle.draft.specs.Walk.{Before, Walked};
 
 use crate::block::{InPorts, OutPorts, Wire};
@@ -10,32 +11,16 @@ use text::fault::{Cause, Fault};
 use text::fields::Fields;
 use text::numerals::number;
 
-// A wire number.
-fn wire(field: &[u8]) -> Result<Wire, Cause>
-    ensures { result ≡ wire_in field.now }
-{
-    let n = number(field, LAST_WIRE)?;
-    Ok(n as Wire)
-}
-
 // A wire number, or nothing.
+#[tactic(auto, unfolding(crate::specs::Lines::port_in, crate::specs::Lines::wire_in))]
 fn wire_or_none(field: &[u8]) -> Result<Option<Wire>, Cause>
     ensures { result ≡ port_in field.now }
 {
     if field.is_empty() {
         return Ok(None);
     }
-    let n = wire(field)?;
-    Ok(Some(n))
-}
-
-// A port that has to be filled.
-fn filled_port(fields: &mut Fields) -> Result<Wire, Fault>
-    ensures value { result ≡ at_last fields.new (wire_in (next_field fields.old)) }
-    ensures moved { Moved fields.old fields.new }
-{
-    let field = fields.next_field();
-    fields.place(wire(field))
+    let n = number(field, LAST_WIRE)?;
+    Ok(Some(n as Wire))
 }
 
 // A port that may be empty.
@@ -84,6 +69,7 @@ fn no_input(fields: &mut Fields) -> Result<InPorts, Fault>
 }
 
 // Fields 4 to 6. After an empty port the others have to be empty.
+#[tactic(auto, unfolding(crate::specs::Lines::in_ports))]
 pub(crate) fn in_ports(fields: &mut Fields) -> Result<InPorts, Fault>
     requires { Before fields.old 8 3 }
     ensures value { result ≡ in_ports fields.old.number (fields_in fields.old) }
@@ -96,11 +82,12 @@ pub(crate) fn in_ports(fields: &mut Fields) -> Result<InPorts, Fault>
 }
 
 // Fields 7 and 8. The first output has to be filled.
+#[tactic(auto, unfolding(crate::specs::Lines::out_ports, crate::specs::Lines::wire_in))]
 pub(crate) fn out_ports(fields: &mut Fields) -> Result<OutPorts, Fault>
     requires { Before fields.old 8 6 }
     ensures { result ≡ out_ports fields.old.number (fields_in fields.old) }
 {
-    let p = filled_port(fields)?;
+    let p = fields.next_number(LAST_WIRE)? as Wire;
     match port(fields)? {
         None => Ok(OutPorts::One(p)),
         Some(q) => Ok(OutPorts::Two(p, q)),

@@ -1,21 +1,18 @@
--- A look-up in the rows of a table from a place on.
-use Rattle.std.proofs.Common.{◌≡◌, ℕ, ◌+◌, ◌<◌, ◌≤◌, cond, eqb, List, length, get_or, drop}
-use Rattle.std.proofs.lemmas.List.{at_drop_more, at_drop_all}
+-- A look-up in a table is by the first row that has the kind.
+use Rattle.std.proofs.Common.{◌≡◌, ℕ, Bool, true, false, refl, cond, eqb, List, [], ◌∷◌, None, Some, Option}
+use Rattle.std.specs.List.{find}
+use Rattle.kit.specs.declared.question.Ports.{Ports}
 use Rattle.kit.specs.declared.table.KindPorts.{KindPorts}
-use Rattle.kit.specs.Tables.{ports_in, no_ports, row}
+use Rattle.kit.specs.Tables.{ports_in, no_ports}
 
-abbrev pub at : List KindPorts → ℕ → KindPorts
-at rows i = get_or rows i (row 0 0 0)
+abbrev pub counts : Option KindPorts → Ports
+counts None = no_ports
+counts (Some r) = record { inputs = r.inputs; outputs = r.outputs }
 
--- the rows from i on give the row at i if it has the kind, else what the rows after it give, and past the end nothing
-pub record From (rows : List KindPorts) (i kind : ℕ) : Type 0 where
-  pub here : i < length rows →
-      ports_in (drop i rows) kind ≡
-      cond (eqb kind (at rows i).kind) (record { inputs = (at rows i).inputs; outputs = (at rows i).outputs }) (ports_in (drop (i + 1) rows) kind)
-  pub past : length rows ≤ i → ports_in (drop i rows) kind ≡ no_ports
+both : (b : Bool) (r : KindPorts) (o : Option KindPorts) (p : Ports) → counts o ≡ p → counts (cond b (Some r) o) ≡ cond b (record { inputs = r.inputs; outputs = r.outputs }) p
+both true r o p h = refl
+both false r o p h = h
 
-pub from : (rows : List KindPorts) (i kind : ℕ) → From rows i kind
-from rows i kind = record {
-  here = at_drop_more (λ rs. ports_in rs kind) rows i (row 0 0 0);
-  past = at_drop_all (λ rs. ports_in rs kind) rows i;
-}
+pub by_first : (rows : List KindPorts) (kind : ℕ) → counts (find (λ r. eqb kind r.kind) rows) ≡ ports_in rows kind
+by_first [] kind = refl
+by_first (r ∷ rows) kind = both (eqb kind r.kind) r (find (λ q. eqb kind q.kind) rows) (ports_in rows kind) (by_first rows kind)

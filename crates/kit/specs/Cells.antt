@@ -1,16 +1,19 @@
--- Between cells and signals.
+-- Cells, and what passes between cells and signals.
+use Rattle.std.specs.Prelude.{Option, None, Some}
 use Rattle.kit.specs.declared.signal.Signal.{Signal}
 use Rattle.kit.specs.declared.signal.Signal.TheVariants.{Unknown, Absent, Present}
-use Rattle.kit.specs.declared.signal.Cell.{Cell}
-use Rattle.kit.specs.declared.signal.Cell.TheVariants.{Empty, Holds}
+
+-- the state of a block: a value, or none where it is empty
+abbrev pub Cell : Type 0 → Type 0
+Cell V = Option V
 
 -- what a cell shows: its value, absent if it is empty
 abbrev pub shown : {V : Type 0} → Cell V → Signal V
-shown Empty = Absent
-shown (Holds v) = Present v
+shown None = Absent
+shown (Some v) = Present v
 
 -- the cell that takes a signal: its value, empty if it is absent; an unknown signal leaves the cell
 abbrev pub taking : {V : Type 0} → Cell V → Signal V → Cell V
 taking cell Unknown = cell
-taking cell Absent = Empty
-taking cell (Present v) = Holds v
+taking cell Absent = None
+taking cell (Present v) = Some v

@@ -6,3 +6,4 @@ pub mod Cells
 pub mod Orderly
 pub mod Joined
 pub mod JoinedLaws
+pub mod Known

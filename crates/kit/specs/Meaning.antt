@@ -1,7 +1,7 @@
 -- What a kit means: its answers to the four questions, and the two laws.
 use Rattle.std.specs.Prelude.{ℕ, ◌≤◌, Bool, not, ℤ, ◌==◌}
 use Rattle.kit.specs.declared.signal.Signal.{Signal}
-use Rattle.kit.specs.declared.signal.Cell.{Cell}
+use Rattle.kit.specs.Cells.{Cell}
 use Rattle.kit.specs.declared.signal.Inputs.{Inputs}
 use Rattle.kit.specs.declared.question.Ports.{Ports}
 use Rattle.kit.specs.Order.{◌⊑◌, ◌⊑ⁱ◌}

@@ -1,16 +1,23 @@
 // Two kits over one type of value as one.
-ghost use Rattle.std.specs.Prelude.{◌≡◌};
+ghost use Rattle.std.specs.Prelude.{◌≡◌, ◌==◌, not};
 ghost use Rattle.kit.specs.Joined.{joined, JoiningKeeps};
 ghost use Rattle.kit.specs.JoinedLaws.{joined_monotone, joined_bounded};
 
-use crate::question::{Kit, Ports};
-use crate::signal::{Cell, Inputs, Signal};
+use crate::question::{BlockView, Kit, Ports};
+use crate::signal::{Cell, Signal};
 
 // The first kit answers for the kinds it knows, the second for the others.
 #[derive(Clone, Copy)]
 pub struct Joined<A, B> {
     pub first: A,
     pub second: B,
+}
+
+// Whether ports are those of a kind that their kit knows.
+fn known(ports: Ports) -> bool
+    ensures { result ≡ not (ports.outputs == 0) }
+{
+    ports.outputs != 0
 }
 
 impl<V: Copy, A: Kit<V>, B: Kit<V>> Kit<V> for Joined<A, B> {
@@ -22,45 +29,34 @@ impl<V: Copy, A: Kit<V>, B: Kit<V>> Kit<V> for Joined<A, B> {
 
     fn ports(&self, kind: u8) -> Ports {
         let ports = self.first.ports(kind);
-        if ports.outputs == 0 {
-            self.second.ports(kind)
-        } else {
+        if known(ports) {
             ports
+        } else {
+            self.second.ports(kind)
         }
     }
 
     fn start(&self, kind: u8, parameter: i32) -> Cell<V> {
-        if self.first.ports(kind).outputs == 0 {
-            self.second.start(kind, parameter)
-        } else {
+        if known(self.first.ports(kind)) {
             self.first.start(kind, parameter)
+        } else {
+            self.second.start(kind, parameter)
         }
     }
 
-    fn fire(
-        &self,
-        kind: u8,
-        parameter: i32,
-        cell: Cell<V>,
-        port: u8,
-        inputs: Inputs<V>,
-    ) -> Signal<V>
-        ensures { result ≡ (joined (A.Kit.meaning self.now.first) (B.Kit.meaning self.now.second)).fire kind parameter cell port inputs }
-    {
-        if self.first.ports(kind).outputs == 0 {
-            self.second.fire(kind, parameter, cell, port, inputs)
+    fn fire(&self, block: &BlockView<V>, port: u8) -> Signal<V> {
+        if known(self.first.ports(block.kind)) {
+            self.first.fire(block, port)
         } else {
-            self.first.fire(kind, parameter, cell, port, inputs)
+            self.second.fire(block, port)
         }
     }
 
-    fn next(&self, kind: u8, parameter: i32, cell: Cell<V>, inputs: Inputs<V>) -> Cell<V>
-        ensures { result ≡ (joined (A.Kit.meaning self.now.first) (B.Kit.meaning self.now.second)).next kind parameter cell inputs }
-    {
-        if self.first.ports(kind).outputs == 0 {
-            self.second.next(kind, parameter, cell, inputs)
+    fn next(&self, block: &BlockView<V>) -> Cell<V> {
+        if known(self.first.ports(block.kind)) {
+            self.first.next(block)
         } else {
-            self.first.next(kind, parameter, cell, inputs)
+            self.second.next(block)
         }
     }
 }

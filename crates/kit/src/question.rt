@@ -4,11 +4,22 @@ ghost use Rattle.kit.specs.Meaning.{Meaning, Monotone, Bounded, Lawful};
 
 use crate::signal::{Cell, Inputs, Signal};
 
-// The numbers of inputs and outputs of a kind; no outputs: the kit does not know the kind.
+// The numbers of inputs and outputs of a kind. No outputs: the kit does not know the kind, which is the rule of kits, so
+// this is no `Option`.
 #[derive(Clone, Copy, PartialEq, Debug)]
 pub struct Ports {
     pub inputs: u8,
     pub outputs: u8,
+}
+
+// A block as a kit sees it in a tick: what is written of it, its cell, and the signals on its inputs. Questions borrow it:
+// a method that takes values of a generic type cannot take the clauses of its trait.
+#[derive(Clone, Copy)]
+pub struct BlockView<V> {
+    pub kind: u8,
+    pub parameter: i32,
+    pub cell: Cell<V>,
+    pub inputs: Inputs<V>,
 }
 
 // A kit of kinds of blocks over values of one type: four questions, which change nothing and always have the same
@@ -26,19 +37,12 @@ pub trait Kit<V> {
         ensures { result ≡ (meaning self.now).start kind parameter };
 
     // The signal on an output port.
-    fn fire(
-        &self,
-        kind: u8,
-        parameter: i32,
-        cell: Cell<V>,
-        port: u8,
-        inputs: Inputs<V>,
-    ) -> Signal<V>
-        ensures { result ≡ (meaning self.now).fire kind parameter cell port inputs };
+    fn fire(&self, block: &BlockView<V>, port: u8) -> Signal<V>
+        ensures { result ≡ (meaning self.now).fire block.now.kind block.now.parameter block.now.cell port block.now.inputs };
 
     // The cell after a tick.
-    fn next(&self, kind: u8, parameter: i32, cell: Cell<V>, inputs: Inputs<V>) -> Cell<V>
-        ensures { result ≡ (meaning self.now).next kind parameter cell inputs };
+    fn next(&self, block: &BlockView<V>) -> Cell<V>
+        ensures { result ≡ (meaning self.now).next block.now.kind block.now.parameter block.now.cell block.now.inputs };
 
     // Law one: fire rises with its inputs.
     ghost monotone: { (k : Self) → Monotone (meaning k) };

@@ -1,6 +1,7 @@
 // What a wire carries and what a block keeps, for any type of value.
 ghost use Rattle.std.specs.Prelude.{◌≡◌};
 ghost use Rattle.kit.specs.Cells.{shown, taking};
+ghost use Rattle.kit.specs.Known.{is_known};
 ghost use Rattle.kit.specs.Order.{AtMostIsAnOrder};
 ghost use Rattle.kit.specs.Strict.{together};
 
@@ -12,12 +13,17 @@ pub enum Signal<V> {
     Present(V),
 }
 
-// The state of a block, kept from tick to tick.
-#[derive(Clone, Copy, PartialEq, Debug)]
-pub enum Cell<V> {
-    Empty,
-    Holds(V),
+impl<V> Signal<V> {
+    // Whether it is known what the wire carries.
+    pub fn is_known(&self) -> bool
+        ensures { result ≡ is_known self.now }
+    {
+        !matches!(*self, Signal::Unknown)
+    }
 }
+
+// The state of a block, kept from tick to tick: a value, or none where it is empty.
+pub type Cell<V> = Option<V>;
 
 // The signals on the three inputs of a block; an input that it lacks is absent.
 #[derive(Clone, Copy)]
@@ -43,13 +49,13 @@ pub fn together<A: Copy, B: Copy>(a: Signal<A>, b: Signal<B>) -> Signal<(A, B)>
     }
 }
 
-// What a cell shows: its value, absent if it is empty.
+// What a cell shows: its value, absent if it is empty. No `From`: that `None` is absent and not unknown needs a name.
 pub fn shown<V: Copy>(cell: Cell<V>) -> Signal<V>
     ensures { result ≡ shown cell }
 {
     match cell {
-        Cell::Empty => Signal::Absent,
-        Cell::Holds(v) => Signal::Present(v),
+        None => Signal::Absent,
+        Some(v) => Signal::Present(v),
     }
 }
 
@@ -59,7 +65,7 @@ pub fn taking<V: Copy>(cell: Cell<V>, signal: Signal<V>) -> Cell<V>
 {
     match signal {
         Signal::Unknown => cell,
-        Signal::Absent => Cell::Empty,
-        Signal::Present(v) => Cell::Holds(v),
+        Signal::Absent => None,
+        Signal::Present(v) => Some(v),
     }
 }

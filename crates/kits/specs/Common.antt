@@ -1,9 +1,8 @@
 -- The common kit: delay and default, for every type of value.
-use Rattle.std.specs.Prelude.{ℕ, List, [], ◌∷◌}
+use Rattle.std.specs.Prelude.{ℕ, List, [], ◌∷◌, None}
 use Rattle.kit.specs.declared.signal.Signal.{Signal}
 use Rattle.kit.specs.declared.signal.Signal.TheVariants.{Unknown, Absent, Present}
-use Rattle.kit.specs.declared.signal.Cell.{Cell}
-use Rattle.kit.specs.declared.signal.Cell.TheVariants.{Empty}
+use Rattle.kit.specs.Cells.{Cell}
 use Rattle.kit.specs.declared.signal.Inputs.{Inputs}
 use Rattle.kit.specs.declared.table.KindPorts.{KindPorts}
 use Rattle.kit.specs.Cells.{shown, taking}
@@ -38,7 +37,7 @@ common_fires cell = (1, delay_fires cell) ∷ (3, default_fires) ∷ []
 abbrev pub common : {V : Type 0} → Meaning V
 common = record {
   ports = ports_in common_table;
-  start = λ kind parameter. Empty;
+  start = λ kind parameter. None;
   fire = λ kind parameter cell port. among ((0, among (common_fires cell) unknown kind) ∷ []) unknown port;
   next = λ kind parameter cell i. among ((1, delay_next cell i) ∷ []) cell kind;
 }

@@ -2,7 +2,7 @@
 use Rattle.std.specs.Prelude.{[], ◌∷◌, refl}
 use Rattle.kit.specs.declared.signal.Signal.{Signal}
 use Rattle.kit.specs.declared.signal.Signal.TheVariants.{Unknown, Absent, Present}
-use Rattle.kit.specs.declared.signal.Cell.{Cell}
+use Rattle.kit.specs.Cells.{Cell}
 use Rattle.kit.specs.Order.{◌⊑◌}
 use Rattle.kit.specs.Meaning.{Rises, Monotone, Bounded}
 use Rattle.kit.specs.Tables.{among, unknown}

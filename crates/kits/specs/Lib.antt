@@ -1,3 +1,5 @@
+pub mod Following
+pub mod Kinds
 pub mod Common
 pub mod Number
 pub mod Switch

@@ -1,9 +1,8 @@
 -- The number kit: constant, sum, mean, choose and count, over signed 32-bit numbers.
-use Rattle.std.specs.Prelude.{ℕ, zero, suc, ◌/◌, cond, List, [], ◌∷◌, ℤ, pos, negsuc, ◌+ℤ◌, ◌≤ℤ◌, int_lt}
+use Rattle.std.specs.Prelude.{ℕ, zero, suc, ◌/◌, cond, List, [], ◌∷◌, ℤ, pos, negsuc, ◌+ℤ◌, ◌≤ℤ◌, int_lt, None, Some}
 use Rattle.kit.specs.declared.signal.Signal.{Signal}
 use Rattle.kit.specs.declared.signal.Signal.TheVariants.{Unknown, Absent, Present}
-use Rattle.kit.specs.declared.signal.Cell.{Cell}
-use Rattle.kit.specs.declared.signal.Cell.TheVariants.{Empty, Holds}
+use Rattle.kit.specs.Cells.{Cell}
 use Rattle.kit.specs.declared.signal.Inputs.{Inputs}
 use Rattle.kit.specs.declared.table.KindPorts.{KindPorts}
 use Rattle.kit.specs.Cells.{taking}
@@ -69,12 +68,12 @@ choose_fires i = choose i.a i.b i.c
 
 -- what a counting cell counts; an empty one counts as 0
 abbrev pub count_of : Cell ℤ → ℤ
-count_of Empty = pos 0
-count_of (Holds n) = n
+count_of None = pos 0
+count_of (Some n) = n
 
 -- 26, count: starts holding the parameter
 abbrev pub count_starts : ℤ → Cell ℤ
-count_starts parameter = Holds parameter
+count_starts parameter = Some parameter
 
 -- unknown if a is; the cell plus 1, held, if a is present; the cell if a is absent
 abbrev pub count : Cell ℤ → Signal ℤ → Signal ℤ
@@ -106,7 +105,7 @@ number_fires parameter cell =
 abbrev pub number : Meaning ℤ
 number = record {
   ports = ports_in number_table;
-  start = λ kind parameter. among ((26, count_starts parameter) ∷ []) Empty kind;
+  start = λ kind parameter. among ((26, count_starts parameter) ∷ []) None kind;
   fire = λ kind parameter cell port. among ((0, among (number_fires parameter cell) unknown kind) ∷ []) unknown port;
   next = λ kind parameter cell i. among ((26, count_next cell i) ∷ []) cell kind;
 }

@@ -1,8 +1,7 @@
 -- The switch kit: constant, and, or, not and adder, over yes and no.
-use Rattle.std.specs.Prelude.{ℕ, zero, suc, ◌+◌, ◌%◌, Bool, true, false, cond, not, ◌||◌, List, [], ◌∷◌, ℤ, pos, negsuc, ◌==◌, nat_le}
+use Rattle.std.specs.Prelude.{ℕ, zero, suc, ◌+◌, ◌%◌, Bool, true, false, cond, not, ◌||◌, List, [], ◌∷◌, ℤ, pos, negsuc, ◌==◌, nat_le, None}
 use Rattle.kit.specs.declared.signal.Signal.{Signal}
 use Rattle.kit.specs.declared.signal.Signal.TheVariants.{Unknown, Absent, Present}
-use Rattle.kit.specs.declared.signal.Cell.TheVariants.{Empty}
 use Rattle.kit.specs.declared.signal.Inputs.{Inputs}
 use Rattle.kit.specs.declared.table.KindPorts.{KindPorts}
 use Rattle.kit.specs.Meaning.{Meaning}
@@ -90,7 +89,7 @@ second_fires = (68, parity_fires) ∷ []
 abbrev pub switch : Meaning Bool
 switch = record {
   ports = ports_in switch_table;
-  start = λ kind parameter. Empty;
+  start = λ kind parameter. None;
   fire = λ kind parameter cell port. among ((0, among (switch_fires parameter) unknown kind) ∷ (1, among second_fires unknown kind) ∷ []) unknown port;
   next = λ kind parameter cell i. cell;
 }

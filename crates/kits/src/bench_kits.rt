@@ -1,4 +1,4 @@
-// The kits of the two benches.
+// The kits of the two benches, each by its name: a generic maker would leave the second kit to be named by its caller.
 ghost use Rattle.std.specs.Prelude.{◌≡◌};
 ghost use Rattle.kit.specs.Orderly.{Orderly};
 ghost use Rattle.kits.specs.Common.{common};

@@ -1,25 +1,43 @@
 // The common kit, written once for every type of value.
 ghost use Rattle.std.specs.Prelude.{◌≡◌};
 ghost use Rattle.kits.specs.Common.{common, default_fires};
+ghost use Rattle.kits.specs.Kinds.{common_kind};
 ghost use Rattle.kits.specs.CommonRises.{common_monotone, common_bounded};
 
-use kit::question::{Kit, Ports};
+use kit::question::{BlockView, Kit, Ports};
 use kit::signal::{Cell, Inputs, Signal, shown, taking};
-use kit::table::{KindPorts, ports_in};
+use kit::table::{KindPorts, UnknownKind, ports_in};
 
-const DELAY: u8 = 1;
+// The kinds, by their numbers.
+#[derive(Clone, Copy, PartialEq, Debug)]
+enum Kind {
+    Delay = 1,
+    Default = 3,
+}
 
-const DEFAULT: u8 = 3;
+impl TryFrom<u8> for Kind {
+    type Error = UnknownKind;
 
-// The kinds, as the ports question reads them.
+    ghost try_from_gives = { λ n r. r ≡ common_kind n };
+
+    fn try_from(number: u8) -> Result<Kind, UnknownKind> {
+        match number {
+            n if n == Kind::Delay as u8 => Ok(Kind::Delay),
+            n if n == Kind::Default as u8 => Ok(Kind::Default),
+            _ => Err(UnknownKind),
+        }
+    }
+}
+
+// The kinds, as the ports question reads them: each kit has one constant table.
 const KINDS: [KindPorts; 2] = [
     KindPorts {
-        kind: DELAY,
+        kind: Kind::Delay as u8,
         inputs: 1,
         outputs: 1,
     },
     KindPorts {
-        kind: DEFAULT,
+        kind: Kind::Default as u8,
         inputs: 2,
         outputs: 1,
     },
@@ -51,35 +69,24 @@ impl<V: Copy> Kit<V> for CommonKit {
     }
 
     fn start(&self, kind: u8, parameter: i32) -> Cell<V> {
-        Cell::Empty
+        None
     }
 
-    fn fire(
-        &self,
-        kind: u8,
-        parameter: i32,
-        cell: Cell<V>,
-        port: u8,
-        inputs: Inputs<V>,
-    ) -> Signal<V>
-        ensures { result ≡ common.fire kind parameter cell port inputs }
-    {
+    fn fire(&self, block: &BlockView<V>, port: u8) -> Signal<V> {
         if port != 0 {
             return Signal::Unknown;
         }
-        match kind {
-            DELAY => shown(cell),
-            DEFAULT => default(inputs),
-            _ => Signal::Unknown,
+        match Kind::try_from(block.kind) {
+            Ok(Kind::Delay) => shown(block.cell),
+            Ok(Kind::Default) => default(block.inputs),
+            Err(UnknownKind) => Signal::Unknown,
         }
     }
 
-    fn next(&self, kind: u8, parameter: i32, cell: Cell<V>, inputs: Inputs<V>) -> Cell<V>
-        ensures { result ≡ common.next kind parameter cell inputs }
-    {
-        match kind {
-            DELAY => taking(cell, inputs.a),
-            _ => cell,
+    fn next(&self, block: &BlockView<V>) -> Cell<V> {
+        match Kind::try_from(block.kind) {
+            Ok(Kind::Delay) => taking(block.cell, block.inputs.a),
+            _ => block.cell,
         }
     }
 }

@@ -4,4 +4,5 @@
 pub mod bench_kits;
 pub mod common;
 pub mod number;
+mod strict;
 pub mod switch;

@@ -1,47 +1,66 @@
 // The number kit, over signed 32-bit numbers.
 ghost use Rattle.std.specs.Prelude.{◌≡◌, ◌+ℤ◌};
+ghost use Rattle.kits.specs.Kinds.{number_kind};
 ghost use Rattle.kits.specs.Number.{MeanInWords, held, mean_of, number};
 ghost use Rattle.kits.specs.Number.{sum_fires, mean_fires, choose_fires, count_fires};
 ghost use Rattle.kits.specs.NumberRises.{number_monotone, number_bounded};
 
-use kit::question::{Kit, Ports};
+use crate::strict::strict;
+use kit::question::{BlockView, Kit, Ports};
 use kit::signal::{Cell, Inputs, Signal, taking, together};
-use kit::table::{KindPorts, ports_in};
+use kit::table::{KindPorts, UnknownKind, ports_in};
 
-const CONSTANT: u8 = 16;
+// The kinds, by their numbers.
+#[derive(Clone, Copy, PartialEq, Debug)]
+enum Kind {
+    Constant = 16,
+    Sum = 17,
+    Mean = 19,
+    Choose = 25,
+    Count = 26,
+}
 
-const SUM: u8 = 17;
+impl TryFrom<u8> for Kind {
+    type Error = UnknownKind;
 
-const MEAN: u8 = 19;
+    ghost try_from_gives = { λ n r. r ≡ number_kind n };
 
-const CHOOSE: u8 = 25;
+    fn try_from(number: u8) -> Result<Kind, UnknownKind> {
+        match number {
+            n if n == Kind::Constant as u8 => Ok(Kind::Constant),
+            n if n == Kind::Sum as u8 => Ok(Kind::Sum),
+            n if n == Kind::Mean as u8 => Ok(Kind::Mean),
+            n if n == Kind::Choose as u8 => Ok(Kind::Choose),
+            n if n == Kind::Count as u8 => Ok(Kind::Count),
+            _ => Err(UnknownKind),
+        }
+    }
+}
 
-const COUNT: u8 = 26;
-
-// The kinds, as the ports question reads them.
+// The kinds, as the ports question reads them: each kit has one constant table.
 const KINDS: [KindPorts; 5] = [
     KindPorts {
-        kind: CONSTANT,
+        kind: Kind::Constant as u8,
         inputs: 0,
         outputs: 1,
     },
     KindPorts {
-        kind: SUM,
+        kind: Kind::Sum as u8,
         inputs: 2,
         outputs: 1,
     },
     KindPorts {
-        kind: MEAN,
+        kind: Kind::Mean as u8,
         inputs: 2,
         outputs: 1,
     },
     KindPorts {
-        kind: CHOOSE,
+        kind: Kind::Choose as u8,
         inputs: 3,
         outputs: 1,
     },
     KindPorts {
-        kind: COUNT,
+        kind: Kind::Count as u8,
         inputs: 1,
         outputs: 1,
     },
@@ -74,22 +93,14 @@ pub fn mean_is_the_greatest()
 fn sum(inputs: Inputs<i32>) -> Signal<i32>
     ensures { result ≡ sum_fires inputs }
 {
-    match together(inputs.a, inputs.b) {
-        Signal::Unknown => Signal::Unknown,
-        Signal::Absent => Signal::Absent,
-        Signal::Present((x, y)) => Signal::Present(held_sum(x, y)),
-    }
+    strict(together(inputs.a, inputs.b), |(x, y)| held_sum(x, y))
 }
 
 // Strict: the mean of a and b.
 fn mean(inputs: Inputs<i32>) -> Signal<i32>
     ensures { result ≡ mean_fires inputs }
 {
-    match together(inputs.a, inputs.b) {
-        Signal::Unknown => Signal::Unknown,
-        Signal::Absent => Signal::Absent,
-        Signal::Present((x, y)) => Signal::Present(mean_of(x, y)),
-    }
+    strict(together(inputs.a, inputs.b), |(x, y)| mean_of(x, y))
 }
 
 // b or c, as a says; a itself if it says nothing.
@@ -107,10 +118,7 @@ fn choose(inputs: Inputs<i32>) -> Signal<i32>
 fn count(cell: Cell<i32>, inputs: Inputs<i32>) -> Signal<i32>
     ensures { result ≡ count_fires cell inputs }
 {
-    let so_far = match cell {
-        Cell::Empty => 0,
-        Cell::Holds(n) => n,
-    };
+    let so_far = cell.unwrap_or(0);
     match inputs.a {
         Signal::Unknown => Signal::Unknown,
         Signal::Absent => Signal::Present(so_far),
@@ -131,41 +139,30 @@ impl Kit<i32> for NumberKit {
     }
 
     fn start(&self, kind: u8, parameter: i32) -> Cell<i32> {
-        match kind {
-            COUNT => Cell::Holds(parameter),
-            _ => Cell::Empty,
+        match Kind::try_from(kind) {
+            Ok(Kind::Count) => Some(parameter),
+            _ => None,
         }
     }
 
-    fn fire(
-        &self,
-        kind: u8,
-        parameter: i32,
-        cell: Cell<i32>,
-        port: u8,
-        inputs: Inputs<i32>,
-    ) -> Signal<i32>
-        ensures { result ≡ number.fire kind parameter cell port inputs }
-    {
+    fn fire(&self, block: &BlockView<i32>, port: u8) -> Signal<i32> {
         if port != 0 {
             return Signal::Unknown;
         }
-        match kind {
-            CONSTANT => Signal::Present(parameter),
-            SUM => sum(inputs),
-            MEAN => mean(inputs),
-            CHOOSE => choose(inputs),
-            COUNT => count(cell, inputs),
-            _ => Signal::Unknown,
+        match Kind::try_from(block.kind) {
+            Ok(Kind::Constant) => Signal::Present(block.parameter),
+            Ok(Kind::Sum) => sum(block.inputs),
+            Ok(Kind::Mean) => mean(block.inputs),
+            Ok(Kind::Choose) => choose(block.inputs),
+            Ok(Kind::Count) => count(block.cell, block.inputs),
+            Err(UnknownKind) => Signal::Unknown,
         }
     }
 
-    fn next(&self, kind: u8, parameter: i32, cell: Cell<i32>, inputs: Inputs<i32>) -> Cell<i32>
-        ensures { result ≡ number.next kind parameter cell inputs }
-    {
-        match kind {
-            COUNT => taking(cell, count(cell, inputs)),
-            _ => cell,
+    fn next(&self, block: &BlockView<i32>) -> Cell<i32> {
+        match Kind::try_from(block.kind) {
+            Ok(Kind::Count) => taking(block.cell, count(block.cell, block.inputs)),
+            _ => block.cell,
         }
     }
 }

@@ -1,5 +1,5 @@
 -- What a log keeps, call by call.
-use Rattle.std.proofs.Common.{◌≡◌, ℕ, zero, suc, ◌+◌, ◌-◌, ◌<◌, true, ◌&&◌, eqb, leb, List, [], ◌∷◌, length, get_or, set, replicate, Ok, Err, Result, sym, refl, ap, ◌∙◌, subst, arith}
+use Rattle.std.proofs.Common.{◌≡◌, ℕ, zero, suc, ◌+◌, ◌-◌, ◌<◌, true, ◌&&◌, eqb, leb, List, [], ◌∷◌, length, get_or, set, replicate, Ok, Err, Result, sym, refl, ap, ◌∙◌, subst, arith, None}
 use Rattle.std.proofs.lemmas.List.{ext_get_or, length-set, length-replicate}
 use Rattle.std.proofs.lemmas.Bool.{eqb-true, leb-false, false≢true, cond_both}
 use Rattle.text.specs.declared.fault.Cause.TheVariants.{NoTickOpen, TickOpen, NoTickLeft, NumberOutside, AlreadyKnown, WrongToken}
@@ -7,8 +7,7 @@ use Rattle.text.specs.declared.fault.Fault.{Fault}
 use Rattle.text.specs.Results.{fault}
 use Rattle.kit.specs.declared.signal.Signal.{Signal}
 use Rattle.kit.specs.declared.signal.Signal.TheVariants.{Unknown, Absent, Present}
-use Rattle.kit.specs.declared.signal.Cell.{Cell}
-use Rattle.kit.specs.declared.signal.Cell.TheVariants.{Empty}
+use Rattle.kit.specs.Cells.{Cell}
 use Rattle.kit.specs.Meaning.{Meaning, Lawful}
 use Rattle.kit.proofs.AtMost.{at_most_known}
 use Rattle.draft.specs.declared.block.Block.{Block}
@@ -224,7 +223,7 @@ module _ {V : Type 0} (m : Meaning V) (law : Lawful m) (d : Drawing) (is : IsDia
 
   -- there is one way to move
   same_moves : (ws : List (Signal V)) (cs xs ys : List (Cell V)) → length cs ≡ length d.blocks → Moved m d ws cs xs → Moved m d ws cs ys → xs ≡ ys
-  same_moves ws cs xs ys long x y = ext_get_or Empty xs ys (x.as_many ∙ sym y.as_many) (λ k l. x.each k (omega (arith, x.as_many)) ∙ sym (y.each k (omega (arith, x.as_many))))
+  same_moves ws cs xs ys long x y = ext_get_or None xs ys (x.as_many ∙ sym y.as_many) (λ k l. x.each k (omega (arith, x.as_many)) ∙ sym (y.each k (omega (arith, x.as_many))))
 
   no_close : (s : State V) (t : Token) (i : Intent) → Keeps m d log s → Keeps m d (closes t i (Err (fault WrongToken 0 0)) ∷ log) s
   no_close s t i k = still (closes t i (Err (fault WrongToken 0 0))) s (record { back = λ r r' h. h; stay = λ r. refl; count = λ c. c }) refl k

@@ -2,7 +2,7 @@
 use Rattle.std.specs.Prelude.{ℕ, zero, suc, List, length, slice_set}
 use Rattle.kit.specs.declared.signal.Signal.{Signal}
 use Rattle.kit.specs.declared.signal.Signal.TheVariants.{Unknown, Absent, Present}
-use Rattle.kit.specs.declared.signal.Cell.{Cell}
+use Rattle.kit.specs.Cells.{Cell}
 use Rattle.kit.specs.Meaning.{Meaning}
 use Rattle.draft.specs.declared.block.Block.{Block}
 use Rattle.draft.specs.declared.block.OutPorts.{OutPorts}

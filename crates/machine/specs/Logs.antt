@@ -3,7 +3,7 @@ use Rattle.std.specs.Prelude.{◌≡◌, ℕ, ◌+◌, ◌*◌, ◌<◌, ◌≤�
 use Rattle.text.specs.declared.fault.Fault.{Fault}
 use Rattle.kit.specs.declared.signal.Signal.{Signal}
 use Rattle.kit.specs.declared.signal.Signal.TheVariants.{Unknown}
-use Rattle.kit.specs.declared.signal.Cell.{Cell}
+use Rattle.kit.specs.Cells.{Cell}
 use Rattle.kit.specs.Meaning.{Meaning, Lawful}
 use Rattle.kit.specs.Order.{◌⊑◌}
 use Rattle.draft.specs.Drawings.{Drawing}

@@ -1,7 +1,7 @@
 -- Solutions: what the wires may be, for given cells and supplied inputs.
 use Rattle.std.specs.Prelude.{◌≡◌, ℕ, ◌<◌, List, length}
 use Rattle.kit.specs.declared.signal.Signal.{Signal}
-use Rattle.kit.specs.declared.signal.Cell.{Cell}
+use Rattle.kit.specs.Cells.{Cell}
 use Rattle.kit.specs.Meaning.{Meaning, Lawful}
 use Rattle.kit.specs.Order.{◌⊑◌}
 use Rattle.draft.specs.declared.block.OutPorts.{OutPorts}

@@ -1,9 +1,8 @@
 -- Wires and cells as tables, and what a block reads of them.
-use Rattle.std.specs.Prelude.{ℕ, ◌+◌, List, [], ◌∷◌, slice_index_or}
+use Rattle.std.specs.Prelude.{ℕ, ◌+◌, List, [], ◌∷◌, slice_index_or, None}
 use Rattle.kit.specs.declared.signal.Signal.{Signal}
 use Rattle.kit.specs.declared.signal.Signal.TheVariants.{Unknown, Absent, Present}
-use Rattle.kit.specs.declared.signal.Cell.{Cell}
-use Rattle.kit.specs.declared.signal.Cell.TheVariants.{Empty}
+use Rattle.kit.specs.Cells.{Cell}
 use Rattle.kit.specs.declared.signal.Inputs.{Inputs}
 use Rattle.kit.specs.Meaning.{Meaning}
 use Rattle.draft.specs.declared.block.Block.{Block}
@@ -16,7 +15,7 @@ abbrev pub at : {V : Type 0} → List (Signal V) → ℕ → Signal V
 at wires w = slice_index_or wires w Unknown
 
 abbrev pub cell_at : {V : Type 0} → List (Cell V) → ℕ → Cell V
-cell_at cells k = slice_index_or cells k Empty
+cell_at cells k = slice_index_or cells k None
 
 abbrev pub block_at : Drawing → ℕ → Block
 block_at d k = slice_index_or d.blocks k blank

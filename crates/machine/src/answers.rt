@@ -1,4 +1,8 @@
 // What a run is handed, and what its calls answer.
+ghost use Rattle.std.specs.Prelude.{◌≡◌};
+ghost use Rattle.machine.specs.Machine.{signal_of};
+
+use kit::signal::Signal;
 use text::fault::Fault;
 
 // Where a run stands: between ticks, in one, or made of what was refused.
@@ -9,11 +13,23 @@ pub enum Phase {
     Void(Fault),
 }
 
-// What can be supplied to an input wire.
+// What can be supplied to an input wire. No `Option`: a tick may supply nothing, and `Some(None)` is no plainer than
+// `Some(Given::Absent)`.
 #[derive(Clone, Copy, PartialEq, Debug)]
 pub enum Given<V> {
     Absent,
     Present(V),
+}
+
+impl<V> From<Given<V>> for Signal<V> {
+    ghost from_gives = { λ given signal. signal ≡ signal_of given };
+
+    fn from(given: Given<V>) -> Signal<V> {
+        match given {
+            Given::Absent => Signal::Absent,
+            Given::Present(value) => Signal::Present(value),
+        }
+    }
 }
 
 // What a settle did.

@@ -13,10 +13,8 @@ use text::numerals::integer;
 fn value<V: Value>(number: i32) -> Result<Option<Given<V>>, Cause>
     ensures { result ≡ present (V.Value.valued number) }
 {
-    match V::of(number) {
-        Some(value) => Ok(Some(Given::Present(value))),
-        None => Err(Cause::Range),
-    }
+    let value = V::of(number).ok_or(Cause::Range)?;
+    Ok(Some(Given::Present(value)))
 }
 
 // What a field supplies: `?` nothing, `.` absent, a number its value.
@@ -46,10 +44,7 @@ impl<V: Value> fmt::Display for Mark<V> {
         match self.signal {
             Signal::Unknown => f.write_str("?"),
             Signal::Absent => f.write_str("."),
-            Signal::Present(value) => {
-                let number = value.number();
-                write!(f, "{number}")
-            }
+            Signal::Present(value) => write!(f, "{}", value.number()),
         }
     }
 }

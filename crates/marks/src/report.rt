@@ -41,11 +41,9 @@ impl<'w, V: Value> fmt::Display for Report<'w, V> {
         let word = Word {
             closed: self.closed,
         };
-        let rounds = self.rounds;
-        write!(f, "{word},{rounds}")?;
+        write!(f, "{word},{}", self.rounds)?;
         for wire in self.wires {
-            let mark = Mark { signal: *wire };
-            write!(f, ",{mark}")?;
+            write!(f, ",{}", Mark { signal: *wire })?;
         }
         Ok(())
     }

@@ -53,6 +53,6 @@ impl Value for bool {
     }
 
     fn number(self) -> i32 {
-        if self { 1 } else { 0 }
+        i32::from(self)
     }
 }

@@ -1,17 +1,13 @@
-// Plays the list on standard input with the kit of the number bench.
+// Plays the list on standard input with the kit of the number bench. A program is a crate of its own: what the two
+// can share is `play_input`.
 #![tactic(auto)]
 
-use bench::list::play_list;
+use bench::input::play_input;
 use kits::bench_kits::number_bench_kit;
-use profile::input::{MOST_BYTES, read_into};
 
 fn main(rt: HostRuntime) -> anyhow::Result<()> {
     let heap = rt.alloc();
-    // one byte more than the limit tells an input that is too long
-    let mut input = vec![in heap; 0; MOST_BYTES + 1]?;
-    let len = read_into(&mut rt.stdin(), &mut input)?;
-    let mut out = String::new(heap);
-    play_list::<i32, _, _>(heap, &number_bench_kit(), &input[0..len], &mut out)?;
+    let out = play_input::<i32, _, _, _>(heap, &number_bench_kit(), &mut rt.stdin())?;
     print!(rt; "{out}")?;
     Ok(())
 }

@@ -13,6 +13,10 @@ use Rattle.profile.specs.declared.open.Report.{Report}
 abbrev pub most_bytes : ℕ
 most_bytes = 65536
 
+-- an input has no more bytes
+abbrev pub limited : List ℕ → Result (Unit {0}) Fault
+limited input = cond (nat_le (length input) most_bytes) (Ok tt) (Err (fault LongInput 0 0))
+
 abbrev pub report_of : Drawing → ℕ → Report
 report_of d n = record { inputs = d.inputs; wires = d.wires; blocks = length d.blocks; length = n }
 

@@ -1,9 +1,12 @@
 // A program's input, up to a limit.
-ghost use Rattle.std.specs.Prelude.{◌<◌, ◌≤◌, length, take, IfOk};
+ghost use Rattle.std.specs.Prelude.{◌≡◌, ◌+◌, ◌<◌, ◌≤◌, length, take, IfOk, vec_len};
 ghost use Rattle.std.specs.Io.KnownBytes.{Consumes, IsAtEnd};
+ghost use Rattle.profile.specs.Opening.{most_bytes, limited};
 
+use std::alloc::Allocator;
 use std::io;
 use std::io::Read;
+use text::fault::{Cause, Fault};
 
 // The longest input that a program takes.
 pub const MOST_BYTES: usize = 65_536;
@@ -15,6 +18,7 @@ pub fn read_into<R: Read>(from: &mut R, buffer: &mut [u8]) -> io::Result<usize>
     ensures bytes { IfOk result (λ n. Consumes (R.Read.remaining from.old) (R.Read.remaining from.new) (take n buffer.new)) }
     ensures all { IfOk result (λ n. n < length buffer.old → IsAtEnd (R.Read.remaining from.new)) }
 {
+    // a loop, since `read_exact` fails where the input is short, and `read_to_end` fills no lent buffer
     let mut len = 0;
     // each turn but the last brings a byte or more
     for _ in 0..buffer.len() {
@@ -25,4 +29,26 @@ pub fn read_into<R: Read>(from: &mut R, buffer: &mut [u8]) -> io::Result<usize>
         len += n;
     }
     Ok(len)
+}
+
+// The bytes of an input, up to one more than the limit, which tells an input that is too long.
+pub fn read_input<A: Allocator, R: Read>(heap: A, from: &mut R) -> io::Result<Vec<u8, A>>
+    ensures within { IfOk result (λ input. vec_len input ≤ most_bytes + 1) }
+    ensures bytes { IfOk result (λ input. Consumes (R.Read.remaining from.old) (R.Read.remaining from.new) input.items) }
+    ensures all { IfOk result (λ input. vec_len input < most_bytes + 1 → IsAtEnd (R.Read.remaining from.new)) }
+{
+    let mut input = vec![in heap; 0; MOST_BYTES + 1]?;
+    let len = read_into(from, &mut input)?;
+    input.truncate(len);
+    Ok(input)
+}
+
+// An input that is longer than the limit is refused.
+pub fn within_limit(input: &[u8]) -> Result<(), Fault>
+    ensures { result ≡ limited input.now }
+{
+    if input.len() > MOST_BYTES {
+        return Err(Fault::new(Cause::LongInput, 0, 0));
+    }
+    Ok(())
 }

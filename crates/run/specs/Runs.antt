@@ -10,13 +10,13 @@ use Rattle.run.specs.declared.token.TickToken.{TickToken}
 use Rattle.run.specs.declared.token.CloseRefused.{CloseRefused}
 
 abbrev pub state_of : {V : Type 0} → Run V → State V
-state_of r = record { name = r.name; count = r.count; phase = r.phase; wires = r.wires.now; cells = r.cells.now }
+state_of r = record { name = r.tick.name; count = r.tick.count; phase = r.phase; wires = r.wires.now; cells = r.cells.now }
 
 abbrev pub drawing_of_run : {V : Type 0} → Run V → Drawing
 drawing_of_run r = drawing r.diagram.now
 
 abbrev pub token_of : TickToken → Token
-token_of t = record { name = t.name; count = t.count }
+token_of t = record { name = t.tick.name; count = t.tick.count }
 
 -- what a close answers, without the token
 abbrev pub close_answer : Result Closed CloseRefused → Result Closed Fault

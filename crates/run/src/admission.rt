@@ -18,11 +18,7 @@ pub enum Call {
 pub(crate) fn refusal(cause: Cause) -> Fault
     ensures { result ≡ record { cause = cause; first = 0; second = 0 } }
 {
-    Fault {
-        cause,
-        first: 0,
-        second: 0,
-    }
+    Fault::new(cause, 0, 0)
 }
 
 // Whether the phase takes the call.

@@ -12,7 +12,7 @@ use kit::signal::{Cell, Signal};
 use tables::lengths::check_lengths;
 use text::fault::{Cause, Fault};
 
-// How many input ports a block has.
+// How many input ports a block has. The enums of either side have no list in common that could be counted.
 fn inputs_in(ports: InPorts) -> u8
     ensures { result ≡ length (ins ports) }
 {
@@ -48,11 +48,7 @@ fn kinds_fit<V: Copy, K: Kit<V>>(kit: &K, blocks: &[Block]) -> Result<(), Fault>
 {
     for (k, block) in blocks.iter().enumerate() {
         if !fit(kit, block) {
-            return Err(Fault {
-                cause: Cause::KitDiffers,
-                first: k,
-                second: 0,
-            });
+            return Err(Fault::new(Cause::KitDiffers, k, 0));
         }
     }
     Ok(())
@@ -75,9 +71,7 @@ pub(crate) fn check_new<V: Copy, K: Kit<V>>(
 pub(crate) fn forget<V: Copy>(wires: &mut [Signal<V>])
     ensures { wires.new ≡ replicate (length wires.old) Unknown }
 {
-    for wire in wires.iter_mut() {
-        *wire = Signal::Unknown;
-    }
+    wires.fill(Signal::Unknown);
 }
 
 // A block's first cell.
@@ -92,6 +86,7 @@ pub(crate) fn start_cells<V: Copy, K: Kit<V>>(kit: &K, diagram: &Diagram, cells:
     requires { length cells.old ≡ length (drawing diagram.now).blocks }
     ensures { cells.new ≡ starts (K.Kit.meaning kit.now) (drawing diagram.now).blocks }
 {
+    // by number: of cells that a zip has lent for writing a proof knows only how many there are
     for (k, block) in diagram.blocks().iter().enumerate() {
         cells[k] = start_of(kit, block);
     }

@@ -3,6 +3,7 @@ ghost use Rattle.std.specs.Prelude.{◌≡◌, false, length};
 ghost use Rattle.diagram.specs.Diagrams.{drawing};
 ghost use Rattle.run.specs.Phases.{is_void};
 
+use crate::token::Tick;
 use diagram::diagram::Diagram;
 use kit::signal::{Cell, Signal};
 use machine::answers::Phase;
@@ -12,9 +13,8 @@ pub mod new;
 
 #[derive(Drop)]
 pub struct Run<'d, 'w, 'c, V> {
-    name: u32,
-    // how many ticks have begun
-    count: u32,
+    // the newest tick; none has begun while its count is 0
+    tick: Tick,
     phase: Phase,
     diagram: &'d Diagram,
     wires: &'w mut [Signal<V>],

@@ -1,11 +1,11 @@
 // What a run is made of: its diagram and its name, and the tables that it is lent.
-use crate::parts::lined;
 use crate::script::read_number;
 use crate::telling::{Answer, Told};
-use crate::words::{cell_in_words, in_numbers, signal_in_words};
+use case_table::kept::Kept;
 use diagram::diagram::Diagram;
 use kit::question::Kit;
 use kit::signal::{Cell, Signal};
+use marks::mark::Mark;
 use marks::value::Value;
 use run::run::Run;
 use std::alloc::{AllocError, Global};
@@ -13,18 +13,10 @@ use text::fault::Fault;
 
 #[derive(Drop)]
 pub(crate) struct Lent<V> {
-    pub(crate) diagram: Diagram,
-    pub(crate) name: u32,
-    pub(crate) wires: Vec<Signal<V>>,
-    pub(crate) cells: Vec<Cell<V>>,
-}
-
-// What every cell holds before there is a run.
-fn mark<V: Value>() -> Cell<V> {
-    match V::of(1) {
-        Some(v) => Cell::Holds(v),
-        None => Cell::Empty,
-    }
+    diagram: Diagram,
+    name: u32,
+    wires: Vec<Signal<V>>,
+    cells: Vec<Cell<V>>,
 }
 
 impl<V: Value> Lent<V> {
@@ -32,12 +24,12 @@ impl<V: Value> Lent<V> {
     // wire is absent and every cell holds 1, by which a table is told that no run has touched.
     pub(crate) fn read(heap: Global, text: &str) -> Result<Lent<V>, AllocError> {
         let mut words = text.split(' ');
-        let text = lined(heap, words.next().unwrap_or(""))?;
+        let text = words.next().unwrap_or("").replace(heap, "\\n", "\n")?;
         let mut diagram = Diagram::empty();
         let _ = diagram.read(text.as_str().as_bytes());
-        let wires = vec![in heap; Signal::Absent; read_number(words.next())]?;
-        let cells = vec![in heap; mark(); read_number(words.next())]?;
-        let name = words.next().unwrap_or("").parse::<u32>().unwrap_or(0);
+        let wires = vec![in heap; Signal::Absent; read_number(words.next()).unwrap_or(0)]?;
+        let cells = vec![in heap; V::of(1); read_number(words.next()).unwrap_or(0)]?;
+        let name = read_number(words.next()).unwrap_or(0);
         Ok(Lent {
             diagram,
             name,
@@ -51,23 +43,22 @@ impl<V: Value> Lent<V> {
         Ok(Answer::Made)
     }
 
-    fn tell_wires(&self, heap: Global, told: &mut Told) {
-        told.add(String::from_str(heap, "wires"));
-        for wire in self.wires.iter() {
-            told.add(signal_in_words(heap, in_numbers(*wire)));
-        }
-    }
-
-    fn tell_cells(&self, heap: Global, told: &mut Told) {
-        told.add(String::from_str(heap, "cells"));
-        for cell in self.cells.iter() {
-            told.add(cell_in_words(heap, *cell));
-        }
+    // A run over the tables.
+    pub(crate) fn run<K: Kit<V>>(&mut self, kit: &K) -> Run<'_, '_, '_, V> {
+        Run::new(
+            kit,
+            self.name,
+            &self.diagram,
+            &mut self.wires,
+            &mut self.cells,
+        )
     }
 
     // The tables as a run has left them.
-    pub(crate) fn tell(&self, heap: Global, told: &mut Told) {
-        self.tell_wires(heap, told);
-        self.tell_cells(heap, told);
+    pub(crate) fn tell(&self, told: &mut Told) {
+        told.add("wires");
+        told.add_all(&self.wires, |signal| Mark { signal });
+        told.add("cells");
+        told.add_all(&self.cells, |cell| Kept { cell });
     }
 }

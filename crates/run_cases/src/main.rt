@@ -6,43 +6,35 @@
 mod lending;
 mod listing;
 mod offering;
-mod parts;
 mod playing;
 mod script;
 mod staging;
 mod telling;
-mod words;
 
+use case_table::table::{Trying, run_table};
 use listing::listed;
-use staging::staged;
+use staging::{Offer, Play, staged};
 use std::alloc::{AllocError, Global};
-use std::io::{BufRead, BufReader};
+use std::io;
 
-fn tried(heap: Global, what: &str, on: &str) -> Result<String, AllocError> {
-    match what {
-        "list" => listed(heap, on),
-        "play" | "offer" => staged(heap, what, on),
-        _ => String::from_str(heap, "nothing to try"),
+// Taking runs through scripts, and playing lists. A word is matched: a table of functions would be no plainer.
+struct Runs;
+
+impl Trying for Runs {
+    fn tried(heap: Global, what: &str, on: &str) -> Result<String, AllocError> {
+        match what {
+            "list" => listed(heap, on),
+            "play" => staged::<Play>(heap, on),
+            "offer" => staged::<Offer>(heap, on),
+            _ => String::from_str(heap, "nothing to try"),
+        }
     }
 }
 
 fn main(rt: HostRuntime) -> anyhow::Result<()> {
     let heap = rt.alloc();
-    let mut cases: u64 = 0;
-    let mut wrong: u64 = 0;
-    for line in BufReader::new(heap, rt.stdin())?.lines(heap) {
-        let line = line?;
-        let mut columns = line.as_str().split('\t');
-        let what = columns.next().unwrap_or("");
-        let mut columns = columns.skip(1);
-        let expected = columns.next().unwrap_or("");
-        let found = tried(heap, what, columns.next().unwrap_or(""))?;
-        cases = cases.saturating_add(1);
-        if found.as_str() != expected {
-            wrong = wrong.saturating_add(1);
-            println!(rt; "{line}: found {found}")?;
-        }
-    }
-    println!(rt; "{cases} cases, {wrong} otherwise than expected")?;
+    let table = io::read_to_string(heap, rt.stdin())?;
+    let told = run_table::<Runs>(heap, table.as_str())?;
+    print!(rt; "{told}")?;
     Ok(())
 }

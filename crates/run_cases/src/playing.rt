@@ -1,38 +1,20 @@
 // A run that is taken through the steps of a script. The script has what the run is made of, and then the steps.
-ghost use Rattle.std.specs.Prelude.{◌≡◌};
+ghost use Rattle.std.specs.Prelude.{◌≡◌, ◌≤◌, length};
+ghost use Rattle.std.specs.Slice.Iter.{iter_rest};
 ghost use Rattle.machine.specs.declared.answers.Phase.TheVariants.{Open};
 ghost use Rattle.machine.proofs.Ticks.{Alike};
 ghost use Rattle.run.specs.Runs.{state_of};
 
 use crate::lending::Lent;
-use crate::script::{Call, Step, read_step};
+use crate::script::{Call, IllFormed, Step};
 use crate::telling::{Answer, Told};
-use crate::words::in_numbers;
 use kit::question::Kit;
 use machine::answers::Intent;
 use marks::value::Value;
 use run::run::Run;
 use std::alloc::{AllocError, Global};
+use std::slice;
 use text::fault::Fault;
-
-// Makes a call; name, count and phase stay.
-fn make<V: Value, K: Kit<V>>(
-    run: &mut Run<'_, '_, '_, V>,
-    kit: &K,
-    call: Call<V>,
-) -> Result<Answer, Fault>
-    ensures { Alike (state_of run.old) (state_of run.new) }
-{
-    match call {
-        Call::Supply(wire, given) => {
-            run.supply(wire, given)?;
-            Ok(Answer::Supplied)
-        }
-        Call::Fire(block) => Ok(Answer::Fired(run.fire(kit, block)?)),
-        Call::Settle => Ok(Answer::Settled(run.settle(kit)?)),
-        Call::Read(wire) => Ok(Answer::Signal(in_numbers(run.read(wire)?))),
-    }
-}
 
 // Begins ticks and drops them.
 pub(crate) fn pass<V: Value, K: Kit<V>>(
@@ -47,67 +29,79 @@ pub(crate) fn pass<V: Value, K: Kit<V>>(
     Ok(Answer::Passed)
 }
 
-// The steps of an open tick up to its close: how many, and what it is closed with. A script that ends in the tick
-// drops it.
-fn play_open<V: Value, K: Kit<V>>(
-    told: &mut Told,
-    run: &mut Run<'_, '_, '_, V>,
-    kit: &K,
-    script: &[&str],
-) -> (usize, Intent)
-    requires { (state_of run.old).phase ≡ Open }
-    ensures { Alike (state_of run.old) (state_of run.new) }
-{
-    for (k, text) in script.iter().enumerate() {
-        let answer = match read_step(text) {
-            Step::Close(intent) => return (k + 1, intent),
-            Step::Call(call) => make(run, kit, call),
-            Step::Begin | Step::Pass(_) => Err(run.begin().unwrap_err()),
-            Step::IllFormed => Ok(Answer::IllFormed),
-        };
-        told.tell(answer);
-    }
-    (script.len(), Intent::Drop)
+// A run, the steps that are left of its script, and what its calls answered.
+#[derive(Drop)]
+struct Play<'k, 's, 'r, V, K> {
+    kit: &'k K,
+    run: Run<'r, 'r, 'r, V>,
+    script: slice::Iter<'s, &'s str>,
+    told: Told,
 }
 
-// A tick, from its begin to its close: how many steps it took.
-fn play_tick<V: Value, K: Kit<V>>(
-    told: &mut Told,
-    run: &mut Run<'_, '_, '_, V>,
-    kit: &K,
-    script: &[&str],
-) -> usize {
-    match run.begin() {
-        Ok(token) => {
-            told.tell(Ok(Answer::Begun));
-            let (steps, intent) = play_open(told, run, kit, script);
-            let closed = run.close(kit, token, intent).unwrap();
-            told.tell(Ok(Answer::Closed(closed)));
-            steps
-        }
-        Err(fault) => {
-            told.tell(Err(fault));
-            0
+impl<V: Value, K: Kit<V>> Play<'_, '_, '_, V, K> {
+    // Makes a call; name, count and phase stay.
+    fn make(&mut self, call: Call<V>) -> Result<Answer, Fault>
+        ensures run { Alike (state_of self.old.run) (state_of self.new.run) }
+        ensures script { self.new.script ≡ self.old.script }
+    {
+        match call {
+            Call::Supply(wire, given) => self.run.supply(wire, given).map(|()| Answer::Supplied),
+            Call::Fire(block) => self.run.fire(self.kit, block).map(Answer::Fired),
+            Call::Settle => self.run.settle(self.kit).map(Answer::Settled),
+            Call::Read(wire) => self.run.read(wire).map(Answer::from),
         }
     }
-}
 
-fn play_steps<V: Value, K: Kit<V>>(
-    told: &mut Told,
-    run: &mut Run<'_, '_, '_, V>,
-    kit: &K,
-    script: &[&str],
-) {
-    let mut at = 0usize;
-    while at < script.len() {
-        let step = read_step(script[at]);
-        at += 1;
-        match step {
-            Step::Begin => at = at.saturating_add(play_tick(told, run, kit, &script[at..])),
-            Step::Call(call) => told.tell(make(run, kit, call)),
-            Step::Pass(ticks) => told.tell(pass(run, kit, ticks)),
-            Step::Close(_) => told.tell(Ok(Answer::NoToken)),
-            Step::IllFormed => told.tell(Ok(Answer::IllFormed)),
+    // The steps of an open tick up to its close: what it is closed with. A script that ends in the tick drops it.
+    fn play_open(&mut self) -> Intent
+        requires { (state_of self.old.run).phase ≡ Open }
+        ensures run { Alike (state_of self.old.run) (state_of self.new.run) }
+        ensures script { length (iter_rest self.new.script) ≤ length (iter_rest self.old.script) }
+    {
+        while let Some(text) = self.script.next() {
+            match text.parse::<Step<V>>() {
+                Ok(Step::Close(intent)) => return intent,
+                Ok(Step::Call(call)) => {
+                    let answer = self.make(call);
+                    self.told.tell(answer);
+                }
+                Ok(Step::Begin | Step::Pass(_)) => {
+                    let fault = self.run.begin().unwrap_err();
+                    self.told.tell(Err(fault));
+                }
+                Err(ill_formed) => self.told.add(ill_formed),
+            }
+        }
+        Intent::Drop
+    }
+
+    // A tick, from its begin to its close.
+    fn play_tick(&mut self)
+        ensures { length (iter_rest self.new.script) ≤ length (iter_rest self.old.script) }
+    {
+        match self.run.begin() {
+            Ok(token) => {
+                self.told.tell(Ok(Answer::Begun));
+                let intent = self.play_open();
+                let closed = self.run.close(self.kit, token, intent).unwrap();
+                self.told.tell(Ok(Answer::Closed(closed)));
+            }
+            Err(fault) => self.told.tell(Err(fault)),
+        }
+    }
+
+    fn play(&mut self) {
+        while let Some(text) = self.script.next() {
+            match text.parse::<Step<V>>() {
+                Ok(Step::Begin) => self.play_tick(),
+                Ok(Step::Call(call)) => {
+                    let answer = self.make(call);
+                    self.told.tell(answer);
+                }
+                Ok(Step::Pass(ticks)) => self.told.tell(pass(&mut self.run, self.kit, ticks)),
+                Ok(Step::Close(_)) => self.told.tell(Ok(Answer::NoToken)),
+                Err(ill_formed) => self.told.add(ill_formed),
+            }
         }
     }
 }
@@ -118,19 +112,19 @@ pub(crate) fn played<V: Value, K: Kit<V>>(
     script: &[&str],
 ) -> Result<String, AllocError> {
     let [made_of, steps @ ..] = script else {
-        return String::from_str(heap, "ill-formed");
+        return IllFormed.to_string(heap);
     };
     let mut lent = Lent::read(heap, made_of)?;
-    let mut told = Told::nothing(heap);
+    let mut told = Told::new(heap);
     told.tell(lent.check(kit));
-    let mut run = Run::new(
+    let mut play = Play {
         kit,
-        lent.name,
-        &lent.diagram,
-        &mut lent.wires,
-        &mut lent.cells,
-    );
-    play_steps(&mut told, &mut run, kit, steps);
-    lent.tell(heap, &mut told);
+        run: lent.run(kit),
+        script: steps.iter(),
+        told,
+    };
+    play.play();
+    let Play { mut told, .. } = play;
+    lent.tell(&mut told);
     told.all()
 }

@@ -1,7 +1,9 @@
-// The steps of a script. A number that is missing or ill-formed is 0, and then the case goes otherwise than expected.
-use crate::words::read_value;
+// The steps of a script.
 use machine::answers::{Given, Intent};
+use marks::mark::input;
 use marks::value::Value;
+use std::fmt;
+use std::str::FromStr;
 
 // A call that neither opens nor closes a tick.
 #[derive(Drop)]
@@ -19,40 +21,59 @@ pub(crate) enum Step<V> {
     Close(Intent),
     // as many ticks begun and dropped
     Pass(usize),
-    IllFormed,
 }
 
-pub(crate) fn read_number(word: Option<&str>) -> usize {
-    word.unwrap_or("").parse::<usize>().unwrap_or(0)
-}
+// Words that are no step, or no script.
+#[derive(Clone, Copy)]
+pub(crate) struct IllFormed;
 
-pub(crate) fn read_intent(word: Option<&str>) -> Intent {
-    match word.unwrap_or("") {
-        "keep" => Intent::Keep,
-        _ => Intent::Drop,
+impl fmt::Display for IllFormed {
+    fn fmt<W: fmt::Write>(&self, f: &mut fmt::Formatter<W>) -> fmt::Result {
+        f.write_str("ill-formed")
     }
 }
 
-// A value; any other word, as `.`, is absent.
-fn read_given<V: Value>(word: Option<&str>) -> Given<V> {
-    match read_value(word.unwrap_or("")) {
-        Some(v) => Given::Present(v),
-        None => Given::Absent,
+// A number has to be there.
+pub(crate) fn read_number<N: FromStr>(word: Option<&str>) -> Result<N, IllFormed>
+where
+    N::Err: Drop,
+{
+    word.and_then(|word| word.parse().ok()).ok_or(IllFormed)
+}
+
+pub(crate) fn read_intent(word: &str) -> Result<Intent, IllFormed> {
+    match word {
+        "keep" => Ok(Intent::Keep),
+        "drop" => Ok(Intent::Drop),
+        _ => Err(IllFormed),
     }
 }
 
-pub(crate) fn read_step<V: Value>(text: &str) -> Step<V> {
-    let mut words = text.split(' ');
-    let verb = words.next();
-    let number = read_number(words.next());
-    match verb.unwrap_or("") {
-        "begin" => Step::Begin,
-        "supply" => Step::Call(Call::Supply(number, read_given(words.next()))),
-        "fire" => Step::Call(Call::Fire(number)),
-        "settle" => Step::Call(Call::Settle),
-        "read" => Step::Call(Call::Read(number)),
-        "ticks" => Step::Pass(number),
-        "keep" | "drop" => Step::Close(read_intent(verb)),
-        _ => Step::IllFormed,
+fn read_given<V: Value>(word: &str) -> Result<Given<V>, IllFormed> {
+    match input(word.as_bytes()) {
+        Ok(Some(given)) => Ok(given),
+        _ => Err(IllFormed),
+    }
+}
+
+impl<V: Value> FromStr for Step<V> {
+    type Err = IllFormed;
+
+    fn from_str(text: &str) -> Result<Step<V>, IllFormed> {
+        let mut words = text.split(' ');
+        let verb = words.next().unwrap_or("");
+        match verb {
+            "begin" => Ok(Step::Begin),
+            "supply" => {
+                let wire = read_number(words.next())?;
+                let given = read_given(words.next().unwrap_or(""))?;
+                Ok(Step::Call(Call::Supply(wire, given)))
+            }
+            "fire" => Ok(Step::Call(Call::Fire(read_number(words.next())?))),
+            "settle" => Ok(Step::Call(Call::Settle)),
+            "read" => Ok(Step::Call(Call::Read(read_number(words.next())?))),
+            "ticks" => Ok(Step::Pass(read_number(words.next())?)),
+            _ => Ok(Step::Close(read_intent(verb)?)),
+        }
     }
 }

@@ -1,8 +1,10 @@
 // What the calls on a run answered, in the words of the table.
-use crate::words::signal_in_words;
 use kit::signal::Signal;
 use machine::answers::{Closed, Settled};
+use marks::mark::Mark;
+use marks::value::Value;
 use std::alloc::{AllocError, Global};
+use std::fmt::{self, Display};
 use text::fault::Fault;
 
 // What an accepted call answers; a value as its number.
@@ -18,83 +20,86 @@ pub(crate) enum Answer {
     Passed,
     // there is no token to close with
     NoToken,
-    IllFormed,
+}
+
+impl<V: Value> From<Signal<V>> for Answer {
+    fn from(signal: Signal<V>) -> Answer {
+        Answer::Signal(match signal {
+            Signal::Unknown => Signal::Unknown,
+            Signal::Absent => Signal::Absent,
+            Signal::Present(value) => Signal::Present(value.number()),
+        })
+    }
+}
+
+impl fmt::Display for Answer {
+    fn fmt<W: fmt::Write>(&self, f: &mut fmt::Formatter<W>) -> fmt::Result {
+        match self {
+            Answer::Made => f.write_str("made"),
+            Answer::Begun => f.write_str("begun"),
+            Answer::Supplied => f.write_str("supplied"),
+            Answer::Fired(known) => write!(f, "fired,{known}"),
+            Answer::Settled(
+                Settled {
+                    rounds,
+                    firings,
+                    known,
+                    unknown,
+                },
+            ) => write!(f, "settled,{rounds},{firings},{known},{unknown}"),
+            Answer::Signal(signal) => write!(f, "{}", Mark { signal: *signal }),
+            Answer::Closed(Closed::Kept) => f.write_str("kept"),
+            Answer::Closed(Closed::Undetermined(wire)) => write!(f, "undetermined,{wire}"),
+            Answer::Closed(Closed::Dropped) => f.write_str("dropped"),
+            Answer::Passed => f.write_str("passed"),
+            Answer::NoToken => f.write_str("no token"),
+        }
+    }
 }
 
 // The answers so far, each followed by a semicolon. A caller may hold a token and cannot return, so a failure of memory
 // is kept until the end.
 #[derive(Drop)]
 pub(crate) struct Told {
-    heap: Global,
     text: String,
     memory: Result<(), AllocError>,
 }
 
-fn settled_in_words(heap: Global, settled: Settled) -> Result<String, AllocError> {
-    let rounds = settled.rounds;
-    let firings = settled.firings;
-    let known = settled.known;
-    let unknown = settled.unknown;
-    format!(in heap; "settled,{rounds},{firings},{known},{unknown}")
-}
-
-fn closed_in_words(heap: Global, closed: Closed) -> Result<String, AllocError> {
-    match closed {
-        Closed::Kept => String::from_str(heap, "kept"),
-        Closed::Undetermined(wire) => format!(in heap; "undetermined,{wire}"),
-        Closed::Dropped => String::from_str(heap, "dropped"),
-    }
-}
-
-fn in_words(heap: Global, answer: Answer) -> Result<String, AllocError> {
-    match answer {
-        Answer::Made => String::from_str(heap, "made"),
-        Answer::Begun => String::from_str(heap, "begun"),
-        Answer::Supplied => String::from_str(heap, "supplied"),
-        Answer::Fired(known) => format!(in heap; "fired,{known}"),
-        Answer::Settled(settled) => settled_in_words(heap, settled),
-        Answer::Signal(signal) => signal_in_words(heap, signal),
-        Answer::Closed(closed) => closed_in_words(heap, closed),
-        Answer::Passed => String::from_str(heap, "passed"),
-        Answer::NoToken => String::from_str(heap, "no token"),
-        Answer::IllFormed => String::from_str(heap, "ill-formed"),
-    }
-}
-
-fn append(text: &mut String, words: Result<String, AllocError>) -> Result<(), AllocError> {
-    text.push_str(words?.as_str())?;
-    text.push(';')
-}
-
 impl Told {
-    pub(crate) fn nothing(heap: Global) -> Told {
+    pub(crate) fn new(heap: Global) -> Told {
         Told {
-            heap,
             text: String::new(heap),
             memory: Ok(()),
         }
     }
 
-    pub(crate) fn add(&mut self, words: Result<String, AllocError>) {
+    pub(crate) fn add(&mut self, words: impl Display + Drop) {
         if self.memory.is_ok() {
-            self.memory = append(&mut self.text, words);
+            self.memory = write!(self.text, "{words};");
+        }
+    }
+
+    pub(crate) fn add_all<T: Copy, D: Display + Drop, F: Fn(T) -> D>(
+        &mut self,
+        items: &[T],
+        shown: F,
+    )
+        requires { F.IsAlwaysCallable shown }
+    {
+        for item in items {
+            self.add(shown(*item));
         }
     }
 
     pub(crate) fn tell(&mut self, answer: Result<Answer, Fault>) {
-        let words = match answer {
-            Ok(answer) => in_words(self.heap, answer),
-            Err(fault) => format!(in self.heap; "{fault}"),
-        };
-        self.add(words);
+        match answer {
+            Ok(answer) => self.add(answer),
+            Err(fault) => self.add(fault),
+        }
     }
 
     pub(crate) fn all(self) -> Result<String, AllocError> {
-        let Told {
-            heap: _,
-            text,
-            memory,
-        } = self;
+        let Told { text, memory } = self;
         memory?;
         Ok(text)
     }

@@ -1,2 +1,3 @@
+pub mod Kinds
 pub mod Shop
 pub mod ShopRises

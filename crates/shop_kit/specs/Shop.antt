@@ -1,9 +1,8 @@
 -- The kit of a shop: larger and interlock, over signed 32-bit numbers.
-use Rattle.std.specs.Prelude.{ℕ, zero, suc, Bool, true, false, cond, ◌||◌, List, [], ◌∷◌, ℤ, pos, negsuc}
+use Rattle.std.specs.Prelude.{ℕ, zero, suc, Bool, true, false, cond, ◌||◌, List, [], ◌∷◌, ℤ, pos, negsuc, None}
 use Rattle.std.specs.Int.{int_max, int_min}
 use Rattle.kit.specs.declared.signal.Signal.{Signal}
 use Rattle.kit.specs.declared.signal.Signal.TheVariants.{Unknown, Absent, Present}
-use Rattle.kit.specs.declared.signal.Cell.TheVariants.{Empty}
 use Rattle.kit.specs.declared.signal.Inputs.{Inputs}
 use Rattle.kit.specs.declared.table.KindPorts.{KindPorts}
 use Rattle.kit.specs.Meaning.{Meaning}
@@ -40,7 +39,7 @@ shop_fires = (200, larger_fires) ∷ (201, interlock_fires) ∷ []
 abbrev pub shop : Meaning ℤ
 shop = record {
   ports = ports_in shop_table;
-  start = λ kind parameter. Empty;
+  start = λ kind parameter. None;
   fire = λ kind parameter cell port. among ((0, among shop_fires unknown kind) ∷ []) unknown port;
   next = λ kind parameter cell i. cell;
 }

@@ -4,11 +4,12 @@ use Rattle.std.proofs.lemmas.List.{set-get_or}
 use Rattle.std.proofs.lemmas.Bool.{and_parts, false≢true}
 use Rattle.kit.specs.declared.signal.Signal.{Signal}
 use Rattle.kit.specs.declared.signal.Signal.TheVariants.{Unknown, Absent, Present}
+use Rattle.kit.specs.Known.{is_known}
 use Rattle.draft.specs.declared.block.OutPorts.{OutPorts}
 use Rattle.draft.specs.declared.block.OutPorts.TheVariants.{One as OneOut, Two as TwoOut}
 use Rattle.machine.specs.Firing.{takes, put, put_outs}
 use Rattle.machine.specs.Tables.{at}
-use Rattle.tables.specs.Knowing.{is_known, known_at, all_known}
+use Rattle.tables.specs.Knowing.{known_at, all_known}
 
 keeps_own : {V : Type 0} (s t : Signal V) → is_known s ≡ true → takes s t ≡ s
 keeps_own Unknown t h = absurd (false≢true h)

@@ -1,7 +1,7 @@
 -- What a close that keeps answers, and the cells after it.
 use Rattle.std.specs.Prelude.{cond, List, length, ◌==◌}
 use Rattle.kit.specs.declared.signal.Signal.{Signal}
-use Rattle.kit.specs.declared.signal.Cell.{Cell}
+use Rattle.kit.specs.Cells.{Cell}
 use Rattle.kit.specs.Meaning.{Meaning}
 use Rattle.draft.specs.Drawings.{Drawing}
 use Rattle.machine.specs.declared.answers.Closed.{Closed}

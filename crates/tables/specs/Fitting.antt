@@ -4,7 +4,7 @@ use Rattle.text.specs.declared.fault.Cause.TheVariants.{NumberOutside}
 use Rattle.text.specs.declared.fault.Fault.{Fault}
 use Rattle.text.specs.Results.{then, fault}
 use Rattle.kit.specs.declared.signal.Signal.{Signal}
-use Rattle.kit.specs.declared.signal.Cell.{Cell}
+use Rattle.kit.specs.Cells.{Cell}
 use Rattle.draft.specs.Drawings.{Drawing}
 use Rattle.machine.specs.Machine.{lengths_fit}
 

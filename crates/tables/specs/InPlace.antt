@@ -1,7 +1,7 @@
 -- Tables that fit a diagram.
 use Rattle.std.specs.Prelude.{◌≡◌, ℕ, ◌<◌, List, length, slice_index_or}
 use Rattle.kit.specs.declared.signal.Signal.{Signal}
-use Rattle.kit.specs.declared.signal.Cell.{Cell}
+use Rattle.kit.specs.Cells.{Cell}
 use Rattle.draft.specs.declared.block.Block.{Block}
 use Rattle.draft.specs.Drawings.{Drawing, blank}
 use Rattle.diagram.specs.Marks.{Below}

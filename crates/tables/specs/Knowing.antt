@@ -1,15 +1,10 @@
 -- Whether wires are known.
-use Rattle.std.specs.Prelude.{ℕ, Bool, true, false, ◌&&◌, List}
+use Rattle.std.specs.Prelude.{ℕ, Bool, ◌&&◌, List}
 use Rattle.kit.specs.declared.signal.Signal.{Signal}
-use Rattle.kit.specs.declared.signal.Signal.TheVariants.{Unknown, Absent, Present}
+use Rattle.kit.specs.Known.{is_known}
 use Rattle.draft.specs.declared.block.OutPorts.{OutPorts}
 use Rattle.draft.specs.declared.block.OutPorts.TheVariants.{One as OneOut, Two as TwoOut}
 use Rattle.machine.specs.Tables.{at}
-
-abbrev pub is_known : {V : Type 0} → Signal V → Bool
-is_known Unknown = false
-is_known Absent = true
-is_known (Present v) = true
 
 abbrev pub known_at : {V : Type 0} → List (Signal V) → ℕ → Bool
 known_at wires w = is_known (at wires w)

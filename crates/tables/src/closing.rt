@@ -1,16 +1,17 @@
 // Closing a tick: the cells move only if no wire is unknown.
-ghost use Rattle.std.specs.Prelude.{◌≡◌, length, Ok};
+ghost use Rattle.std.specs.Prelude.{◌≡◌, length, not, position, Ok};
 ghost use Rattle.text.specs.Results.{then};
+ghost use Rattle.kit.specs.Known.{is_known};
 ghost use Rattle.diagram.specs.Diagrams.{drawing};
 ghost use Rattle.diagram.specs.Marks.{Below};
 ghost use Rattle.diagram.specs.Wiring.{ins};
 ghost use Rattle.machine.specs.Tables.{next_cell};
-ghost use Rattle.machine.specs.Machine.{lowest_unknown, next_cells};
+ghost use Rattle.machine.specs.Machine.{next_cells};
 ghost use Rattle.tables.specs.Closings.{kept_answer, kept_cells};
 ghost use Rattle.tables.specs.Fitting.{fitting, where_taken};
 ghost use Rattle.tables.specs.InPlace.{Fit};
 
-use crate::firing::inputs_of;
+use crate::firing::view_of;
 use crate::lengths::check_lengths;
 use diagram::diagram::Diagram;
 use draft::block::Block;
@@ -19,16 +20,11 @@ use kit::signal::{Cell, Signal};
 use machine::answers::Closed;
 use text::fault::Fault;
 
-// The lowest unknown wire, or how many wires there are.
-fn lowest_unknown<V: Copy>(wires: &[Signal<V>]) -> usize
-    ensures { result ≡ lowest_unknown wires.now }
+// The lowest unknown wire.
+fn lowest_unknown<V>(wires: &[Signal<V>]) -> Option<usize>
+    ensures { result ≡ position (λ s. not (is_known s)) wires.now }
 {
-    for (w, wire) in wires.iter().enumerate() {
-        if let Signal::Unknown = *wire {
-            return w;
-        }
-    }
-    wires.len()
+    wires.iter().position(|wire| !wire.is_known())
 }
 
 // A block's cell after the tick.
@@ -41,15 +37,10 @@ fn next_of<V: Copy, K: Kit<V>>(
     requires { Below (length wires.now) (ins block.now.inputs) }
     ensures { result ≡ next_cell (K.Kit.meaning kit.now) wires.now block.now cell }
 {
-    kit.next(
-        block.kind,
-        block.parameter,
-        cell,
-        inputs_of(wires, block.inputs),
-    )
+    kit.next(&view_of(wires, block, cell))
 }
 
-// Every cell becomes its next.
+// Every cell becomes its next. The tables come apart: `Tables` lends its cells for reading only.
 fn move_cells<V: Copy, K: Kit<V>>(
     kit: &K,
     diagram: &Diagram,
@@ -59,30 +50,10 @@ fn move_cells<V: Copy, K: Kit<V>>(
     requires { Fit (drawing diagram.now) wires.now cells.old }
     ensures { cells.new ≡ next_cells (K.Kit.meaning kit.now) wires.now (drawing diagram.now).blocks cells.old }
 {
+    // by number: of cells that a zip has lent for writing a proof knows only how many there are
     for (k, block) in diagram.blocks().iter().enumerate() {
-        let cell = cells[k];
-        cells[k] = next_of(kit, block, cell, wires);
+        cells[k] = next_of(kit, block, cells[k], wires);
     }
-}
-
-// A tick that is kept if it is determined, over tables that fit.
-fn keep_fitting<V: Copy, K: Kit<V>>(
-    kit: &K,
-    diagram: &Diagram,
-    cells: &mut [Cell<V>],
-    wires: &mut [Signal<V>],
-) -> Closed
-    requires { Fit (drawing diagram.now) wires.old cells.old }
-    ensures answer { result ≡ kept_answer wires.old }
-    ensures after { cells.new ≡ kept_cells (K.Kit.meaning kit.now) (drawing diagram.now) wires.old cells.old }
-    ensures wires { wires.new ≡ wires.old }
-{
-    let lowest = lowest_unknown(wires);
-    if lowest != wires.len() {
-        return Closed::Undetermined(lowest);
-    }
-    move_cells(kit, diagram, cells, &*wires);
-    Closed::Kept
 }
 
 // Keeps a tick if it is determined: then every cell becomes its next.
@@ -97,5 +68,11 @@ pub fn keep<V: Copy, K: Kit<V>>(
     ensures wires { wires.new ≡ wires.old }
 {
     check_lengths(diagram, wires.len(), cells.len())?;
-    Ok(keep_fitting(kit, diagram, cells, wires))
+    match lowest_unknown(wires) {
+        Some(lowest) => Ok(Closed::Undetermined(lowest)),
+        None => {
+            move_cells(kit, diagram, cells, wires);
+            Ok(Closed::Kept)
+        }
+    }
 }

@@ -1,4 +1,5 @@
-// Firing blocks.
+// Firing blocks. That a block's ports lie below the wires is said at each function: a type for a block that fits would be
+// made anew at each firing, and is no plainer than the clause.
 ghost use Rattle.std.specs.Prelude.{◌≡◌, ◌+◌, ◌-◌, ◌<◌, ◌≤◌, length, Ok};
 ghost use Rattle.text.specs.Results.{then};
 ghost use Rattle.diagram.specs.Diagrams.{drawing};
@@ -7,43 +8,43 @@ ghost use Rattle.diagram.specs.Wiring.{ins, outs};
 ghost use Rattle.machine.specs.Firing.{put as put_in, after_fire, round};
 ghost use Rattle.machine.specs.Tables.{block_at, cell_at, known, reads};
 ghost use Rattle.tables.specs.Fitting.{fitting_at, where_taken};
-ghost use Rattle.tables.specs.InPlace.{Fit};
-ghost use Rattle.tables.specs.Knowing.{known_at, all_known};
+ghost use Rattle.tables.specs.Knowing.{all_known};
+ghost use Rattle.tables.specs.Lent.{drawing_of_tables, SameLoans};
 
 use crate::lengths::check_lengths;
+use crate::lent::Tables;
 use diagram::diagram::Diagram;
 use draft::block::{Block, InPorts, OutPorts, Wire};
-use kit::question::Kit;
+use kit::question::{BlockView, Kit};
 use kit::signal::{Cell, Inputs, Signal};
 use text::fault::{Cause, Fault};
 
 // The signals at a block's inputs; one that it lacks is absent.
-pub(crate) fn inputs_of<V: Copy>(wires: &[Signal<V>], ports: InPorts) -> Inputs<V>
+fn inputs_of<V: Copy>(wires: &[Signal<V>], ports: InPorts) -> Inputs<V>
     requires { Below (length wires.now) (ins ports) }
     ensures { result ≡ reads wires.now ports }
 {
+    let at = |wire: Wire| wires[usize::from(wire)];
     let none = Signal::Absent;
-    match ports {
-        InPorts::Zero => Inputs {
-            a: none,
-            b: none,
-            c: none,
-        },
-        InPorts::One(a) => Inputs {
-            a: wires[a as usize],
-            b: none,
-            c: none,
-        },
-        InPorts::Two(a, b) => Inputs {
-            a: wires[a as usize],
-            b: wires[b as usize],
-            c: none,
-        },
-        InPorts::Three(a, b, c) => Inputs {
-            a: wires[a as usize],
-            b: wires[b as usize],
-            c: wires[c as usize],
-        },
+    let (a, b, c) = match ports {
+        InPorts::Zero => (none, none, none),
+        InPorts::One(a) => (at(a), none, none),
+        InPorts::Two(a, b) => (at(a), at(b), none),
+        InPorts::Three(a, b, c) => (at(a), at(b), at(c)),
+    };
+    Inputs { a, b, c }
+}
+
+// What a kit sees of a block with this cell.
+pub(crate) fn view_of<V: Copy>(wires: &[Signal<V>], block: &Block, cell: Cell<V>) -> BlockView<V>
+    requires { Below (length wires.now) (ins block.now.inputs) }
+    ensures { result ≡ record { kind = block.now.kind; parameter = block.now.parameter; cell = cell; inputs = reads wires.now block.now.inputs } }
+{
+    BlockView {
+        kind: block.kind,
+        parameter: block.parameter,
+        cell,
+        inputs: inputs_of(wires, block.inputs),
     }
 }
 
@@ -54,27 +55,13 @@ fn put<V: Copy>(wires: &mut [Signal<V>], wire: Wire, answer: Signal<V>) -> usize
     ensures count { result + known wires.old ≡ known wires.new }
     ensures few { result ≤ 1 }
 {
-    let at = wire as usize;
+    let at = usize::from(wire);
     let was = wires[at];
-    if let Signal::Unknown = was {
-        if let Signal::Unknown = answer {
-            return 0;
-        }
-        wires[at] = answer;
-        return 1;
+    if was.is_known() || !answer.is_known() {
+        return 0;
     }
-    0
-}
-
-fn is_known<V: Copy>(wires: &[Signal<V>], wire: Wire) -> bool
-    requires { wire < length wires.now }
-    ensures { result ≡ known_at wires.now wire }
-{
-    let signal = wires[wire as usize];
-    match signal {
-        Signal::Unknown => false,
-        _ => true,
-    }
+    wires[at] = answer;
+    1
 }
 
 // Whether every output of a block is known.
@@ -83,8 +70,8 @@ fn all_known<V: Copy>(wires: &[Signal<V>], ports: OutPorts) -> bool
     ensures { result ≡ all_known wires.now ports }
 {
     match ports {
-        OutPorts::One(p) => is_known(wires, p),
-        OutPorts::Two(p, q) => is_known(wires, p) && is_known(wires, q),
+        OutPorts::One(p) => wires[usize::from(p)].is_known(),
+        OutPorts::Two(p, q) => wires[usize::from(p)].is_known() && wires[usize::from(q)].is_known(),
     }
 }
 
@@ -103,33 +90,43 @@ fn fire_block<V: Copy, K: Kit<V>>(
     if all_known(wires, block.outputs) {
         return 0;
     }
-    let inputs = inputs_of(wires, block.inputs);
-    let first = kit.fire(block.kind, block.parameter, cell, 0, inputs);
+    let view = view_of(wires, block, cell);
+    let first = kit.fire(&view, 0);
     match block.outputs {
         OutPorts::One(p) => put(wires, p, first),
         OutPorts::Two(p, q) => {
-            let second = kit.fire(block.kind, block.parameter, cell, 1, inputs);
+            let second = kit.fire(&view, 1);
             put(wires, p, first) + put(wires, q, second)
         }
     }
 }
 
-// Fires block k of the diagram.
-fn fire_at<V: Copy, K: Kit<V>>(
-    kit: &K,
-    diagram: &Diagram,
-    cells: &mut [Cell<V>],
-    wires: &mut [Signal<V>],
-    k: usize,
-) -> usize
-    requires { (k < length (drawing diagram.now).blocks) × (Fit (drawing diagram.now) wires.old cells.old) }
-    ensures after { wires.new ≡ after_fire (K.Kit.meaning kit.now) wires.old (block_at (drawing diagram.now) k) (cell_at cells.old k) }
-    ensures count { result + known wires.old ≡ known wires.new }
-    ensures cells { cells.new ≡ cells.old }
-{
-    let blocks = diagram.blocks();
-    let cell = cells[k];
-    fire_block(kit, &blocks[k], cell, wires)
+impl<V: Copy> Tables<'_, '_, '_, V> {
+    // Fires block k of the diagram.
+    fn fire_at<K: Kit<V>>(&mut self, kit: &K, k: usize) -> usize
+        requires { k < length (drawing_of_tables self.old).blocks }
+        ensures after { self.new.wires.now ≡ after_fire (K.Kit.meaning kit.now) self.old.wires.now (block_at (drawing_of_tables self.old) k) (cell_at self.old.cells.now k) }
+        ensures count { result + known self.old.wires.now ≡ known self.new.wires.now }
+        ensures loans { SameLoans self.old self.new }
+    {
+        let block = &self.diagram.blocks()[k];
+        let cell = self.cells[k];
+        fire_block(kit, block, cell, self.wires)
+    }
+
+    // A round: every block once, in table order; how many wires became known.
+    pub(crate) fn round<K: Kit<V>>(&mut self, kit: &K) -> usize
+        ensures after { self.new.wires.now ≡ round (K.Kit.meaning kit.now) (drawing_of_tables self.old) self.old.cells.now self.old.wires.now }
+        ensures count { result + known self.old.wires.now ≡ known self.new.wires.now }
+        ensures loans { SameLoans self.old self.new }
+    {
+        let wires = &mut *self.wires;
+        let mut known = 0;
+        for (block, cell) in self.diagram.blocks().iter().zip(self.cells) {
+            known += fire_block(kit, block, *cell, wires);
+        }
+        known
+    }
 }
 
 // Fires block k of the diagram; how many wires became known.
@@ -147,30 +144,12 @@ pub fn fire<V: Copy, K: Kit<V>>(
     check_lengths(diagram, wires.len(), cells.len())?;
     let blocks = diagram.blocks().len();
     if k >= blocks {
-        return Err(Fault {
-            cause: Cause::NumberOutside,
-            first: k,
-            second: blocks,
-        });
+        return Err(Fault::new(Cause::NumberOutside, k, blocks));
     }
-    Ok(fire_at(kit, diagram, cells, wires, k))
-}
-
-// A round: every block once, in table order; how many wires became known.
-pub(crate) fn fire_round<V: Copy, K: Kit<V>>(
-    kit: &K,
-    diagram: &Diagram,
-    cells: &[Cell<V>],
-    wires: &mut [Signal<V>],
-) -> usize
-    requires { Fit (drawing diagram.now) wires.old cells.now }
-    ensures after { wires.new ≡ round (K.Kit.meaning kit.now) (drawing diagram.now) cells.now wires.old }
-    ensures count { result + known wires.old ≡ known wires.new }
-{
-    let mut known = 0;
-    for (k, block) in diagram.blocks().iter().enumerate() {
-        let cell = cells[k];
-        known += fire_block(kit, block, cell, wires);
-    }
-    known
+    let mut tables = Tables {
+        diagram,
+        cells,
+        wires,
+    };
+    Ok(tables.fire_at(kit, k))
 }

@@ -4,4 +4,5 @@
 pub mod closing;
 pub mod firing;
 pub mod lengths;
+mod lent;
 pub mod settling;

@@ -1,10 +1,15 @@
 -- Laws of cutting and joining: a text is cut into pieces that lack the byte, and joining them gives it back.
-use Rattle.std.proofs.Common.{◌≡◌, ℕ, zero, suc, ◌+◌, ◌<◌, ◌≤◌, Bool, true, false, cond, eqb, leb, List, [], ◌∷◌, ◌++◌, length, get_or, take, drop, sym, refl, ap, ◌∙◌, ⊎_elim, add-zero, add-one, arith}
+use Rattle.std.proofs.Common.{◌≡◌, ℕ, suc, ◌+◌, ◌-◌, ◌<◌, ◌≤◌, Bool, true, false, cond, eqb, leb, List, [], ◌∷◌, ◌++◌, length, get_or, take, drop, Some, None, Option, position, sym, refl, ap, ◌∙◌, ⊎_elim, add-one, arith}
 use Rattle.std.specs.Char.{is_ascii_digit}
 use Rattle.std.specs.Str.{all_ascii_digits}
-use Rattle.std.proofs.lemmas.List.{length-drop, drop-drop, get_or-drop, take_all}
-use Rattle.std.proofs.lemmas.Bool.{cases_lt, cases_Bool, eqb-true, eqb-false, eq-eqb, ne_eqb, and_parts, leb-true}
-use Rattle.text.specs.Pieces.{before, longer, pieces, parted_by, fields_of, field, start_of}
+use Rattle.std.proofs.lemmas.List.{length-drop, drop-drop, take_all, take_rest}
+use Rattle.std.specs.Borrow.{Bor}
+use Rattle.std.specs.Option.{unwrap_or}
+use Rattle.std.specs.Slice.{IsGetRangeResult}
+use Rattle.std.specs.List.{count_by, position_or_len}
+use Rattle.std.proofs.lemmas.List.Recursion.{is_count_by, is_position_or_len}
+use Rattle.std.proofs.lemmas.Bool.{cases_lt, cases_Bool, eqb-true, eqb-false, eq-eqb, ne_eqb, lt-ltb, le-ltb, and_parts, leb-true}
+use Rattle.text.specs.Pieces.{before, longer, pieces, parted_by, pieces_left}
 
 length_longer : (x : ℕ) (ps : List (List ℕ)) → 0 < length ps → length (longer x ps) ≡ length ps
 length_longer x [] h = absurd (omega arith)
@@ -26,6 +31,16 @@ length_pieces b x xs =
       | false ↦ omega (arith, length_longer x (pieces b xs) (some_piece b xs))
     ]
 
+-- the number of cuts
+pub pieces_count : (b : ℕ) (xs : List ℕ) → length (pieces b xs) ≡ count_by (λ x. eqb x b) xs + 1
+pieces_count b xs = omega (arith, some_piece b xs, is_count_by (λ ys. length (pieces b ys) - 1) (λ x. eqb x b) refl step xs)
+  where
+    step : (x : ℕ) (ys : List ℕ) → length (pieces b (x ∷ ys)) - 1 ≡ cond (eqb x b) (1 + (length (pieces b ys) - 1)) (length (pieces b ys) - 1)
+    step x ys =
+        let some = some_piece b ys in
+        ap (λ n. n - 1) (length_pieces b x ys)
+        ∙ elim (eqb x b) as (λ t. cond t 1 0 + length (pieces b ys) - 1 ≡ cond t (1 + (length (pieces b ys) - 1)) (length (pieces b ys) - 1)) [ true ↦ omega arith | false ↦ omega arith ]
+
 -- at most one piece more than there are bytes
 pub few_pieces : (b : ℕ) (xs : List ℕ) → length (pieces b xs) ≤ length xs + 1
 few_pieces b [] = omega arith
@@ -39,6 +54,16 @@ pub before_within : (b : ℕ) (xs : List ℕ) → before b xs ≤ length xs
 before_within b [] = omega arith
 before_within b (x ∷ xs) =
     elim (eqb x b) as (λ t. cond t 0 (suc (before b xs)) ≤ suc (length xs)) [ true ↦ omega arith | false ↦ omega (arith, before_within b xs) ]
+
+-- what stands before the first b is its position, or everything
+pub before_found : (b : ℕ) (xs : List ℕ) → unwrap_or (position (λ x. eqb x b) xs) (length xs) ≡ before b xs
+before_found b xs =
+    let at : ℕ = position_or_len (λ x. eqb x b) xs in
+    let is : before b xs ≡ at = is_position_or_len (before b) (λ x. eqb x b) refl (λ x ys. ap (λ n. cond (eqb x b) 0 n) (omega arith)) xs in
+    ⊎_elim
+    (λ l. ap (λ t. unwrap_or (cond t (Some at) None) (length xs)) (lt-ltb at (length xs) l) ∙ sym is)
+    (λ l. ap (λ t. unwrap_or (cond t (Some at) None) (length xs)) (le-ltb at (length xs) l) ∙ omega (arith, before_within b xs))
+    (cases_lt at (length xs))
 
 longer_head : (x : ℕ) (ps : List (List ℕ)) → get_or (longer x ps) 0 [] ≡ x ∷ get_or ps 0 []
 longer_head x [] = refl
@@ -87,36 +112,16 @@ cut_none b xs h =
     let whole : before b xs ≡ length xs = omega (arith, before_within b xs) in
     head_and_rest (pieces b xs) (some_piece b xs) ∙ (λ i. (first_piece b xs ∙ ap (λ n. take n xs) whole ∙ take_all (length xs) xs (omega arith)) i ∷ no_later_pieces b xs h i)
 
--- the walk by starts: field k begins at its start, and the fields from k on are those of what is left there
-pub record At (line : List ℕ) (k : ℕ) : Type 0 where
-  pub start : start_of k line ≤ length line
-  pub left : drop k (fields_of line) ≡ fields_of (drop (start_of k line) line)
-
-pub at_start : (line : List ℕ) (k : ℕ) → k < length (fields_of line) → At line k
-at_start line zero h = record { start = omega arith; left = refl }
-at_start line (suc k) h =
-    let now = at_start line k (omega arith) in
-    let s = start_of k line in
-    let rest = drop s line in
-    let two : 1 < length (fields_of rest) = omega (arith, ap length now.left, length-drop k (fields_of line)) in
-    let cut : before 44 rest < length rest =
-    ⊎_elim (λ h. h) (λ none. absurd (omega (arith, ap length (cut_none 44 rest none)))) (cases_lt (before 44 rest) (length rest))
-    in
-    let long = length-drop s line in
-    let on : start_of (suc k) line ≡ s + suc (before 44 rest) = omega arith in
-    record {
-      start = omega (arith, now.start);
-      left =
-          ap (λ n. drop n (fields_of line)) (sym (add-one k)) ∙ sym (drop-drop 1 k (fields_of line)) ∙ ap (drop 1) now.left
-          ∙ later_pieces 44 rest cut
-          ∙ ap fields_of (drop-drop (suc (before 44 rest)) s line ∙ ap (λ n. drop n line) (sym on));
-    }
-
--- so the field at k is what stands before the next comma
-pub field_at : (line : List ℕ) (k : ℕ) → k < length (fields_of line) → field (fields_of line) k ≡ take (before 44 (drop (start_of k line) line)) (drop (start_of k line) line)
-field_at line k h =
-    ap (λ n. get_or (fields_of line) n []) (sym (add-zero k)) ∙ sym (get_or-drop k (fields_of line) 0 []) ∙ ap (λ ps. get_or ps 0 []) (at_start line k h).left
-    ∙ first_piece 44 (drop (start_of k line) line)
+-- cut as the code cuts: what follows the cut is what `get(1..)` gives of the rest
+pub cut_by_get : (b : ℕ) (xs : List ℕ) (r : Option (Bor (List ℕ))) → IsGetRangeResult (drop (before b xs) xs) 1 (length (drop (before b xs) xs)) r → pieces b xs ≡ take (before b xs) xs ∷ pieces_left b r
+cut_by_get b xs None g =
+    let long = length-drop (before b xs) xs in
+    let none : length xs ≤ before b xs = omega (arith, g.0) in
+    cut_none b xs none ∙ ap (λ ys. ys ∷ []) (sym (take_all (before b xs) xs none))
+cut_by_get b xs (Some x) g =
+    let long = length-drop (before b xs) xs in
+    cut_found b xs (omega arith)
+    ∙ ap (λ ys. take (before b xs) xs ∷ pieces b ys) (ap (λ n. drop n xs) (sym (add-one (before b xs))) ∙ sym (drop-drop 1 (before b xs) xs) ∙ sym (take_rest (drop (before b xs) xs) 1) ∙ sym g.0.2)
 
 parted_cut : (b : ℕ) (ps : List (List ℕ)) → 0 < length ps → parted_by b ([] ∷ ps) ≡ b ∷ parted_by b ps
 parted_cut b [] h = absurd (omega arith)
@@ -135,6 +140,10 @@ joined_again b (x ∷ xs) =
     (λ e. ap (λ t. parted_by b (cond t ([] ∷ pieces b xs) (longer x (pieces b xs)))) e ∙ parted_cut b (pieces b xs) (some_piece b xs) ∙ (λ i. sym (eqb-true x b e) i ∷ joined_again b xs i))
     (λ e. ap (λ t. parted_by b (cond t ([] ∷ pieces b xs) (longer x (pieces b xs)))) e ∙ parted_longer b x (pieces b xs) (some_piece b xs) ∙ ap (λ ys. x ∷ ys) (joined_again b xs))
     (cases_Bool (eqb x b))
+
+-- so the only piece is the whole text
+pub only_piece : (b : ℕ) (xs p : List ℕ) → pieces b xs ≡ p ∷ [] → pieces b xs ≡ xs ∷ []
+only_piece b xs p h = h ∙ ap (λ q. q ∷ []) (ap (parted_by b) (sym h) ∙ joined_again b xs)
 
 -- no b in it
 abbrev pub Lacks : ℕ → List ℕ → Type 0

@@ -1,10 +1,10 @@
 -- What a reading that was accepted went through.
-use Rattle.std.proofs.Common.{◌≡◌, ℕ, Bool, true, false, cond, Ok, Err, Result, refl, ap, arith}
+use Rattle.std.proofs.Common.{◌≡◌, ℕ, Bool, true, false, cond, Ok, Err, Result, refl, ap}
 use Rattle.text.specs.declared.fault.Cause.{Cause}
 use Rattle.text.specs.Results.{then, mapped, placed}
 
 pub never_ok : {A E P : Type 0} {e : E} {x : A} → Err e ≡ Ok x → P
-never_ok {A} {E} {P} {e} {x} h = let z : ◌≡◌ {A = ℕ} 0 1 = cc in absurd (omega arith)
+never_ok h = absurd cc
 
 pub same_ok : {A E : Type 0} {x y : A} → ◌≡◌ {A = Result A E} (Ok x) (Ok y) → x ≡ y
 same_ok h = cc

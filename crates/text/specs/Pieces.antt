@@ -1,5 +1,6 @@
 -- A text cut at a byte: the lines of a text at its line feeds, the fields of a line at its commas.
-use Rattle.std.specs.Prelude.{ℕ, zero, suc, ◌+◌, cond, List, [], ◌∷◌, ◌++◌, drop, ◌==◌, slice_index_or}
+use Rattle.std.specs.Prelude.{ℕ, suc, cond, List, [], ◌∷◌, ◌++◌, Some, None, Option, ◌==◌, slice_index_or}
+use Rattle.std.specs.Borrow.{Bor}
 
 -- how many bytes stand before the first b: all of them where there is none
 abbrev pub before : ℕ → List ℕ → ℕ
@@ -16,6 +17,11 @@ abbrev pub pieces : ℕ → List ℕ → List (List ℕ)
 pieces b [] = [] ∷ []
 pieces b (x ∷ xs) = cond (x == b) ([] ∷ pieces b xs) (longer x (pieces b xs))
 
+-- the pieces of what follows a piece: none where no b ended it
+abbrev pub pieces_left : ℕ → Option (Bor (List ℕ)) → List (List ℕ)
+pieces_left b None = []
+pieces_left b (Some rest) = pieces b rest.now
+
 -- the pieces with b between them
 abbrev pub parted_by : ℕ → List (List ℕ) → List ℕ
 parted_by b [] = []
@@ -25,11 +31,9 @@ parted_by b (p ∷ q ∷ ps) = p ++ b ∷ parted_by b (q ∷ ps)
 abbrev pub fields_of : List ℕ → List (List ℕ)
 fields_of line = pieces 44 line
 
+abbrev pub fields_left : Option (Bor (List ℕ)) → List (List ℕ)
+fields_left rest = pieces_left 44 rest
+
 -- the field at place k from 0, and nothing past the last
 abbrev pub field : List (List ℕ) → ℕ → List ℕ
 field fs k = slice_index_or fs k []
-
--- where field k begins, for a field that the line has
-abbrev pub start_of : ℕ → List ℕ → ℕ
-start_of zero line = 0
-start_of (suc k) line = start_of k line + before 44 (drop (start_of k line) line) + 1

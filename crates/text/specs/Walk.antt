@@ -2,11 +2,11 @@
 use Rattle.std.specs.Prelude.{◌≡◌, ℕ, ◌+◌, min, cond, List, length, Ok, Err, Result, ◌==◌}
 use Rattle.std.specs.Str.{bytes_eq}
 use Rattle.text.specs.declared.fault.Cause.{Cause}
-use Rattle.text.specs.declared.fault.Cause.TheVariants.{Form}
+use Rattle.text.specs.declared.fault.Cause.TheVariants.{Form, FieldCount}
 use Rattle.text.specs.declared.fault.Fault.{Fault}
 use Rattle.text.specs.declared.fields.Fields.{Fields}
 use Rattle.text.specs.Pieces.{fields_of, field}
-use Rattle.text.specs.Results.{placed}
+use Rattle.text.specs.Results.{fault, placed}
 
 abbrev pub fields_in : Fields → List (List ℕ)
 fields_in f = fields_of f.line.now
@@ -30,6 +30,10 @@ pub record Moved (f g : Fields) : Type 0 where
 -- a cause gets the line and the field last taken for its place
 abbrev pub at_last : {A : Type 0} → Fields → Result A Cause → Result A Fault
 at_last f r = placed f.number f.taken r
+
+-- the line has to have so many fields
+abbrev pub count_expected : Fields → ℕ → Result (Unit {0}) Fault
+count_expected f wanted = let found = length (fields_in f) in cond (found == wanted) (Ok tt) (Err (fault FieldCount f.number found))
 
 unfoldable pub word_in : List ℕ → List ℕ → Result (Unit {0}) Cause
 word_in word field = cond (bytes_eq field word) (Ok tt) (Err Form)

@@ -1,6 +1,7 @@
 // A refusal: its cause, by number, and the two places that the cause names.
 ghost use Rattle.std.specs.Prelude.{◌≡◌, Some};
 ghost use Rattle.text.specs.Faults.{number_of, shown_fault};
+ghost use Rattle.text.specs.Results.{fault};
 
 use std::fmt;
 
@@ -41,13 +42,28 @@ pub struct Fault {
     pub second: usize,
 }
 
+impl Fault {
+    pub fn new(cause: Cause, first: usize, second: usize) -> Fault
+        ensures { result ≡ fault cause first second }
+    {
+        Fault {
+            cause,
+            first,
+            second,
+        }
+    }
+}
+
 impl fmt::Display for Fault {
     ghost output = { λ f. Some (shown_fault f) };
 
     fn fmt<W: fmt::Write>(&self, f: &mut fmt::Formatter<W>) -> fmt::Result {
-        let number = self.cause.number();
-        let first = self.first;
-        let second = self.second;
-        write!(f, "refused,{number},{first},{second}")
+        write!(
+            f,
+            "refused,{},{},{}",
+            self.cause.number(),
+            self.first,
+            self.second
+        )
     }
 }

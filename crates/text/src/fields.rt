@@ -1,6 +1,6 @@
 // The fields of one line, walked from the left. Each is a part of the caller's text.
-ghost use Rattle.std.specs.Prelude.{◌≡◌, ◌^◌, ◌<◌, ◌≤◌, length};
-ghost use Rattle.text.specs.Pieces.{fields_of, start_of};
+ghost use Rattle.std.specs.Prelude.{◌≡◌, ◌^◌, ◌<◌, ◌≤◌, length, drop};
+ghost use Rattle.text.specs.Pieces.{fields_of, fields_left};
 
 pub mod walk;
 
@@ -10,13 +10,11 @@ pub struct Fields<'a> {
     line: &'a [u8],
     // the line's number in the text, from 1
     number: usize,
-    // how many fields the line has, and how many are taken
-    count: usize,
+    // how many fields are taken
     taken: usize,
-    // where the next field begins
-    at: usize,
+    // what follows them: nothing past the last
+    rest: Option<&'a [u8]>,
     ghost short: { length line.now < 2 ^ 63 },
-    ghost counted: { count ≡ length (fields_of line.now) },
-    ghost within: { taken ≤ count },
-    ghost here: { at ≡ start_of taken line.now },
+    ghost within: { taken ≤ length (fields_of line.now) },
+    ghost here: { fields_left rest ≡ drop taken (fields_of line.now) },
 }

@@ -1,4 +1,5 @@
-// The lines of a text, from the first on, where the caller has it.
+// The lines of a text, from the first on, where the caller has it. No `Iterator`: a line that is refused is not taken, and
+// stays the next.
 ghost use Rattle.std.specs.Prelude.{◌+◌, ◌^◌, ◌<◌, length};
 
 pub mod walk;

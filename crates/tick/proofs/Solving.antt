@@ -6,7 +6,7 @@ use Rattle.text.specs.Results.{mapped}
 use Rattle.text.proofs.ResultLaws.{never_ok, then_ok, mapped_ok}
 use Rattle.kit.specs.declared.signal.Signal.{Signal}
 use Rattle.kit.specs.declared.signal.Signal.TheVariants.{Unknown, Absent, Present}
-use Rattle.kit.specs.declared.signal.Cell.{Cell}
+use Rattle.kit.specs.Cells.{Cell}
 use Rattle.kit.specs.Meaning.{Meaning, Lawful}
 use Rattle.draft.specs.Drawings.{Drawing}
 use Rattle.diagram.specs.Reading.{IsDiagram}

@@ -1,10 +1,9 @@
 -- The eight cases.
-use Rattle.std.specs.Prelude.{◌≡◌, ℕ, Bool, true, false, List, [], ◌∷◌, length, ℤ, pos, negsuc, Ok, Result}
+use Rattle.std.specs.Prelude.{◌≡◌, ℕ, Bool, true, false, List, [], ◌∷◌, length, ℤ, pos, negsuc, Ok, Result, None}
 use Rattle.text.specs.declared.fault.Fault.{Fault}
 use Rattle.kit.specs.declared.signal.Signal.{Signal}
 use Rattle.kit.specs.declared.signal.Signal.TheVariants.{Unknown, Absent, Present}
-use Rattle.kit.specs.declared.signal.Cell.{Cell}
-use Rattle.kit.specs.declared.signal.Cell.TheVariants.{Empty}
+use Rattle.kit.specs.Cells.{Cell}
 use Rattle.kits.specs.Benches.{number_bench, switch_bench}
 use Rattle.draft.specs.declared.block.InPorts.TheVariants.{Two as TwoIn}
 use Rattle.draft.specs.declared.block.OutPorts.TheVariants.{One as OneOut}
@@ -35,11 +34,11 @@ adder_kind = 68
 
 -- what a block of this kind answers to two numbers
 abbrev pub of_two : ℕ → Signal ℤ → Signal ℤ → Signal ℤ
-of_two kind a b = number_bench.fire kind (pos 0) Empty 0 (record { a = a; b = b; c = Absent })
+of_two kind a b = number_bench.fire kind (pos 0) None 0 (record { a = a; b = b; c = Absent })
 
 -- what an adder answers on a port
 abbrev pub adds : ℕ → Signal Bool → Signal Bool → Signal Bool → Signal Bool
-adds port a b c = switch_bench.fire adder_kind (pos 0) Empty port (record { a = a; b = b; c = c })
+adds port a b c = switch_bench.fire adder_kind (pos 0) None port (record { a = a; b = b; c = c })
 
 -- one input wire, and a block that reads it and its own output
 abbrev pub loop_of : ℕ → Drawing
@@ -50,7 +49,7 @@ abbrev pub wires_lent : List (Signal Bool)
 wires_lent = Unknown ∷ Unknown ∷ []
 
 abbrev pub cells_lent : List (Cell Bool)
-cells_lent = Empty ∷ []
+cells_lent = None ∷ []
 
 abbrev pub supplied_yes : ℕ → State Bool
 supplied_yes kind = (supply (loop_of kind) (begin (new_state switch_bench (loop_of kind) 0 wires_lent cells_lent)).state 0 (GivenPresent true)).state

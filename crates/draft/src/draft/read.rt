@@ -13,7 +13,7 @@ use crate::lines::{block_line, diagram_line};
 use text::fault::Fault;
 use text::lines::Lines;
 
-// Stands where no block is drawn.
+// Stands where no block is drawn. A constant: no variant of `OutPorts` is one that a derived `Default` takes.
 const BLANK: Block = Block {
     kind: 0,
     parameter: 0,
@@ -37,7 +37,7 @@ impl Draft {
     pub fn blocks(&self) -> &[Block]
         ensures { result.now ≡ (drawing_of self.now).blocks }
     {
-        &self.blocks[0..self.count]
+        &self.blocks[..self.count]
     }
 
     // No inputs, no wires and no blocks.

@@ -1,7 +1,7 @@
 // The calls on a run.
 ghost use Rattle.std.specs.Prelude.{◌≡◌};
 ghost use Rattle.machine.specs.Logs.{begins, supplies, fires, settles, reads, closes, StandsAfter, StandsWithEvery};
-ghost use Rattle.machine.specs.Machine.{begin, supply, fire, settle, read, close, signal_of};
+ghost use Rattle.machine.specs.Machine.{begin, supply, fire, settle, read, close};
 ghost use Rattle.text.specs.Results.{mapped};
 ghost use Rattle.run.specs.Runs.{state_of, token_of, drawing_of_run, close_answer, HandsBack};
 
@@ -18,16 +18,6 @@ use text::fault::{Cause, Fault};
 // As many ticks may begin in a run.
 const MOST_TICKS: u32 = 1_000_000;
 
-// What is given, as a signal.
-fn signal<V>(given: Given<V>) -> Signal<V>
-    ensures { result ≡ signal_of given }
-{
-    match given {
-        Given::Absent => Signal::Absent,
-        Given::Present(value) => Signal::Present(value),
-    }
-}
-
 impl<'d, 'w, 'c, V: Copy> Run<'d, 'w, 'c, V> {
     // One wire's signal.
     pub fn read(&self, wire: usize) -> Result<Signal<V>, Fault>
@@ -36,14 +26,10 @@ impl<'d, 'w, 'c, V: Copy> Run<'d, 'w, 'c, V> {
     {
         admit(self.phase, Call::Read)?;
         let wires = &*self.wires;
-        if wire >= wires.len() {
-            return Err(Fault {
-                cause: Cause::NumberOutside,
-                first: wire,
-                second: wires.len(),
-            });
+        match wires.get(wire) {
+            Some(signal) => Ok(*signal),
+            None => Err(Fault::new(Cause::NumberOutside, wire, wires.len())),
         }
-        Ok(wires[wire])
     }
 
     // The signals of all wires, from wire 0 on.
@@ -61,21 +47,14 @@ impl<'d, 'w, 'c, V: Copy> Run<'d, 'w, 'c, V> {
         ensures stands { StandsWithEvery (drawing_of_run self.old) (state_of self.old) (begins (mapped token_of result)) (state_of self.new) }
     {
         admit(self.phase, Call::Begin)?;
-        if self.count >= MOST_TICKS {
+        if self.tick.count >= MOST_TICKS {
             return Err(refusal(Cause::NoTickLeft));
         }
-        let name = self.name;
-        let begun = self.count + 1;
-        let Run {
-            count,
-            phase,
-            wires,
-            ..
-        } = self;
+        let wires = &mut *self.wires;
         forget(wires);
-        *count = begun;
-        *phase = Phase::Open;
-        Ok(TickToken { name, count: begun })
+        self.tick.count += 1;
+        self.phase = Phase::Open;
+        Ok(TickToken { tick: self.tick })
     }
 
     // Gives an input wire its signal in this tick.
@@ -86,26 +65,16 @@ impl<'d, 'w, 'c, V: Copy> Run<'d, 'w, 'c, V> {
         ensures stands { StandsWithEvery (drawing_of_run self.old) (state_of self.old) (supplies wire given result) (state_of self.new) }
     {
         admit(self.phase, Call::Supply)?;
-        let inputs = self.diagram.inputs() as usize;
+        let inputs = usize::from(self.diagram.inputs());
         if wire >= inputs {
-            return Err(Fault {
-                cause: Cause::NumberOutside,
-                first: wire,
-                second: inputs,
-            });
+            return Err(Fault::new(Cause::NumberOutside, wire, inputs));
         }
         let was = self.wires[wire];
-        match was {
-            Signal::Unknown => {
-                self.wires[wire] = signal(given);
-                Ok(())
-            }
-            _ => Err(Fault {
-                cause: Cause::AlreadyKnown,
-                first: wire,
-                second: 0,
-            }),
+        if was.is_known() {
+            return Err(Fault::new(Cause::AlreadyKnown, wire, 0));
         }
+        self.wires[wire] = given.into();
+        Ok(())
     }
 
     // Fires one block; how many wires became known.
@@ -116,9 +85,9 @@ impl<'d, 'w, 'c, V: Copy> Run<'d, 'w, 'c, V> {
         ensures stands { StandsAfter (K.Kit.meaning kit.now) (drawing_of_run self.old) (state_of self.old) (fires block result) (state_of self.new) }
     {
         admit(self.phase, Call::Fire)?;
-        let diagram = self.diagram;
-        let Run { wires, cells, .. } = self;
-        tables::firing::fire(kit, diagram, cells, wires, block)
+        let cells = &mut *self.cells;
+        let wires = &mut *self.wires;
+        tables::firing::fire(kit, self.diagram, cells, wires, block)
     }
 
     // Rounds until one makes no wire known.
@@ -129,9 +98,9 @@ impl<'d, 'w, 'c, V: Copy> Run<'d, 'w, 'c, V> {
         ensures stands { StandsAfter (K.Kit.meaning kit.now) (drawing_of_run self.old) (state_of self.old) (settles result) (state_of self.new) }
     {
         admit(self.phase, Call::Settle)?;
-        let diagram = self.diagram;
-        let Run { wires, cells, .. } = self;
-        tables::settling::settle(kit, diagram, cells, wires)
+        let cells = &mut *self.cells;
+        let wires = &mut *self.wires;
+        tables::settling::settle(kit, self.diagram, cells, wires)
     }
 
     // Closes the tick of the token. A refused close hands the token back.
@@ -150,23 +119,18 @@ impl<'d, 'w, 'c, V: Copy> Run<'d, 'w, 'c, V> {
         if let Err(fault) = admit(self.phase, Call::Close) {
             return Err(CloseRefused { token, fault });
         }
-        if !token.is_of(self.name, self.count) {
+        if token.tick != self.tick {
             return Err(CloseRefused {
                 token,
                 fault: refusal(Cause::WrongToken),
             });
         }
-        let TickToken { name: _, count: _ } = token;
-        let diagram = self.diagram;
-        let Run {
-            phase,
-            wires,
-            cells,
-            ..
-        } = self;
-        *phase = Phase::Resting;
+        let TickToken { tick: _ } = token;
+        self.phase = Phase::Resting;
+        let wires = &mut *self.wires;
+        let cells = &mut *self.cells;
         match intent {
-            Intent::Keep => Ok(keep(kit, diagram, cells, wires).unwrap()),
+            Intent::Keep => Ok(keep(kit, self.diagram, cells, wires).unwrap()),
             Intent::Drop => Ok(Closed::Dropped),
         }
     }

@@ -6,6 +6,7 @@ ghost use Rattle.run.specs.Runs.{state_of, drawing_of_run};
 
 use crate::making::{check_new, forget, start_cells};
 use crate::run::Run;
+use crate::token::Tick;
 use diagram::diagram::Diagram;
 use kit::question::Kit;
 use kit::signal::{Cell, Signal};
@@ -36,10 +37,10 @@ impl<'d, 'w, 'c, V: Copy> Run<'d, 'w, 'c, V> {
         ensures state { state_of result ≡ new_state (K.Kit.meaning kit.now) (drawing diagram.now) name wires.old cells.old }
         ensures diagram { drawing_of_run result ≡ drawing diagram.now }
     {
+        let tick = Tick { name, count: 0 };
         if let Err(fault) = check_new(kit, diagram, wires.len(), cells.len()) {
             return Run {
-                name,
-                count: 0,
+                tick,
                 phase: Phase::Void(fault),
                 diagram,
                 wires,
@@ -49,8 +50,7 @@ impl<'d, 'w, 'c, V: Copy> Run<'d, 'w, 'c, V> {
         forget(wires);
         start_cells(kit, diagram, cells);
         Run {
-            name,
-            count: 0,
+            tick,
             phase: Phase::Resting,
             diagram,
             wires,

@@ -2,7 +2,7 @@
 ghost use Rattle.std.specs.Prelude.{◌≡◌, length, take, drop, ◌==◌};
 ghost use Rattle.text.specs.LineWalk.{From, NextLine, next_piece, first_is, line_feeds};
 
-use crate::cut::{bytes_before, count_pieces};
+use crate::cut::{count_pieces, first_piece};
 use crate::fault::{Cause, Fault};
 use crate::lines::Lines;
 
@@ -17,13 +17,14 @@ impl<'a> Lines<'a> {
     }
 
     // The lines of a text from a byte on, numbered as in the whole text.
+    #[tactic(auto, using(crate::proofs::Cuts::some_piece, crate::proofs::Cuts::few_pieces))]
     pub fn after(text: &'a [u8], at: usize) -> Lines<'a>
         ensures { From result (drop at text.now) (line_feeds (take at text.now)) }
     {
-        let at = at.min(text.len());
+        let (before, rest) = text.split_at(at.min(text.len()));
         Lines {
-            rest: &text[at..],
-            taken: count_pieces(&text[0..at], b'\n') - 1,
+            rest,
+            taken: count_pieces(before, b'\n') - 1,
         }
     }
 
@@ -49,33 +50,26 @@ impl<'a> Lines<'a> {
     }
 
     // Whether the first field of the next line is this word.
+    #[tactic(auto, unfolding(crate::specs::LineWalk::first_is))]
     pub fn next_is(&self, word: &[u8]) -> bool
         ensures { result ≡ first_is word.now (next_piece self.now) }
     {
-        let rest = self.rest;
-        let line = &rest[0..bytes_before(rest, b'\n')];
-        let field = &line[0..bytes_before(line, b',')];
+        let (line, _) = first_piece(self.rest, b'\n');
+        let (field, _) = first_piece(line, b',');
         field == word
     }
 
     // The next line, without its line feed. A line that has none is refused, and not taken.
+    #[tactic(auto, using(crate::proofs::Cuts::only_piece))]
     pub fn next_line(&mut self) -> Result<&'a [u8], Fault>
         ensures { NextLine self.old result self.new }
     {
-        let text = self.rest;
-        let n = bytes_before(text, b'\n');
-        if n == text.len() {
-            return Err(Fault {
-                cause: Cause::FieldCount,
-                first: self.taken + 1,
-                second: 0,
-            });
-        }
         let taken = self.taken + 1;
-        *self = Lines {
-            rest: &text[n + 1..],
-            taken,
+        let (line, rest) = first_piece(self.rest, b'\n');
+        let Some(rest) = rest else {
+            return Err(Fault::new(Cause::FieldCount, taken, 0));
         };
-        Ok(&text[0..n])
+        *self = Lines { rest, taken };
+        Ok(line)
     }
 }

@@ -1,15 +1,10 @@
--- A row that lacks the kind is passed over.
-use Rattle.std.proofs.Common.{◌≡◌, ◌+◌, drop, refl, rules}
-use Rattle.kit.specs.Tables.{ports_in}
-use Rattle.kit.proofs.Lookup.{from}
+-- By the first row that has the kind.
+use Rattle.std.proofs.Common.{◌∙◌, ap}
+use Rattle.kit.proofs.Lookup.{counts, by_first}
 use Rattle.kit.proofs.table.ports_in.Goals as goal
 
-pub loop-row-init : goal.loop-row-init
-loop-row-init c = (refl, from c.args.table.now 0 c.args.kind)
+pub returns-in-Some : goal.returns-in-Some
+returns-in-Some c = ap counts c.in-Some.ensures ∙ by_first c.args.table.now c.args.kind
 
-pub loop-row-preserved : goal.loop-row-preserved
-loop-row-preserved c =
-    let rows = c.args.table.now in
-    let kind = c.args.kind in
-    let rest : ports_in (drop (c.loop-row.row-index + 1) rows) kind ≡ ports_in rows kind = search rules in
-    (rest, from rows (c.loop-row.row-index + 1) kind)
+pub returns-in-None : goal.returns-in-None
+returns-in-None c = ap counts c.in-None.ensures ∙ by_first c.args.table.now c.args.kind

@@ -1,4 +1,4 @@
-use Rattle.std.proofs.Common.{◌+◌, get_or, drop, Err, sym, ◌∙◌}
+use Rattle.std.proofs.Common.{◌+◌, get_or, drop, Err, sym, ap, ◌∙◌}
 use Rattle.std.proofs.lemmas.List.{at_drop_more, at_drop_all}
 use Rattle.std.proofs.lemmas.Bool.{cond-true, cond-false}
 use Rattle.text.specs.declared.fault.Cause.TheVariants.{KitDiffers}
@@ -22,7 +22,7 @@ returns-then-not-fit g c =
     let k = c.loop-k.k in
     let bs = c.args.blocks.now in
     let b = get_or bs k blank in
-    sym (at_drop_more (kinds_fit m k) bs k blank c.loop-k-test.true ∙ cond-false (fits (m.ports b.kind) b) (kinds_fit m (k + 1) (drop (k + 1) bs)) (Err (fault KitDiffers k 0)) (sym c.if-not-fit.ensures))
+    ap Err c.new.ensures ∙ sym (at_drop_more (kinds_fit m k) bs k blank c.loop-k-test.true ∙ cond-false (fits (m.ports b.kind) b) (kinds_fit m (k + 1) (drop (k + 1) bs)) (Err (fault KitDiffers k 0)) (sym c.if-not-fit.ensures))
     ∙ c.loop-k.invariant
 
 pub returns : goal.returns

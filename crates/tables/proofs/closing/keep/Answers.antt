@@ -1,24 +1,27 @@
-use Rattle.std.proofs.Common.{◌≡◌, Ok, sym, ap, ◌∙◌}
-use Rattle.text.specs.Results.{then}
+use Rattle.std.proofs.Common.{◌≡◌, Ok, sym, refl, ap, ◌∙◌}
 use Rattle.diagram.specs.Diagrams.{drawing}
-use Rattle.tables.specs.Closings.{kept_answer, kept_cells}
-use Rattle.tables.specs.Fitting.{fitting, where_taken}
-use Rattle.tables.proofs.Fits.{fit_taken}
+use Rattle.tables.specs.Fitting.{fitting}
+use Rattle.tables.proofs.Closings.{kept_none, kept_some}
 use Rattle.tables.proofs.closing.keep.Goals as goal
 
-pub keep_fitting-requires : goal.keep_fitting-requires
-keep_fitting-requires g c = fit_taken (drawing c.args.diagram.now) c.args.wires.now c.args.cells.now tt (sym c.in_ok-check_lengths.ensures)
-
-pub returns : goal.returns
-returns g c =
-    let m = g.K.Kit.meaning c.args.kit.now in
-    let d = drawing c.args.diagram.now in
+pub returns-in-Some : goal.returns-in-Some
+returns-in-Some g c =
     let ws = c.args.wires.now in
-    let cells = c.args.cells.now in
-    let ok : fitting d ws cells ≡ Ok tt = sym c.in_ok-check_lengths.ensures in
-    let done = c.keep_fitting.ensures in
+    let ok : fitting (drawing c.args.diagram.now) ws c.args.cells.now ≡ Ok tt = sym c.in_ok-check_lengths.ensures.answer in
+    let kept = kept_some ws c.in-Some.lowest (sym c.in-Some.ensures) in
     record {
-      answer = ap Ok done.answer ∙ sym (ap (λ r. then r (λ _. Ok (kept_answer ws))) ok);
-      after = done.after ∙ sym (ap (λ r. where_taken r (kept_cells m d ws cells) cells) ok);
-      wires = done.wires;
+      answer = rw ok (ap Ok (sym kept.0));
+      after = rw ok (sym (kept.1 (g.K.Kit.meaning c.args.kit.now) (drawing c.args.diagram.now) c.args.cells.now));
+      wires = refl;
+    }
+
+pub returns-in-None : goal.returns-in-None
+returns-in-None g c =
+    let ws = c.args.wires.now in
+    let ok : fitting (drawing c.args.diagram.now) ws c.args.cells.now ≡ Ok tt = sym c.in_ok-check_lengths.ensures.answer in
+    let kept = kept_none ws (sym c.in-None.ensures) in
+    record {
+      answer = rw ok (ap Ok (sym kept.0));
+      after = rw ok (c.move_cells.ensures ∙ sym (kept.1 (g.K.Kit.meaning c.args.kit.now) (drawing c.args.diagram.now) c.args.cells.now));
+      wires = refl;
     }

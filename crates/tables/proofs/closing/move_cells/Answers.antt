@@ -1,14 +1,11 @@
-use Rattle.std.proofs.Common.{◌≡◌, suc, ◌+◌, ◌<◌, length, get_or, take, set, sym, ap, ◌∙◌, subst, arith, rules}
-use Rattle.std.proofs.lemmas.List.{get_or_read, take_all}
-use Rattle.kit.specs.declared.signal.Cell.TheVariants.{Empty}
+use Rattle.std.proofs.Common.{◌≡◌, suc, ◌+◌, ◌<◌, length, get_or, take, set, sym, ap, ◌∙◌, subst, arith, None}
+use Rattle.std.proofs.lemmas.List.{get_or_read}
 use Rattle.draft.specs.Drawings.{blank}
 use Rattle.diagram.specs.Diagrams.{drawing}
-use Rattle.diagram.specs.Marks.{Below}
-use Rattle.diagram.specs.Wiring.{ins}
 use Rattle.machine.specs.Machine.{next_cells}
 use Rattle.machine.specs.Tables.{cell_at, block_at, next_cell}
 use Rattle.tables.proofs.Closings.{next_later, next_more}
-use Rattle.tables.proofs.Places.{in_place}
+use Rattle.tables.proofs.Places.{ports_below}
 use Rattle.tables.proofs.closing.move_cells.Goals as goal
 
 pub next_of-requires : goal.next_of-requires
@@ -16,19 +13,7 @@ next_of-requires g c =
     let d = c.args.diagram.now in
     let k = c.loop-k.k in
     let inside : k < length (drawing d).blocks = subst (λ bs. k < length bs) c.blocks-block-items.ensures c.loop-k-test.true in
-    subst (λ bs. Below (length c.args.wires.now) (ins (get_or bs k blank).inputs)) (sym c.blocks-block-items.ensures)
-    (subst (λ n. Below n (ins (get_or (drawing d).blocks k blank).inputs)) (sym c.requires.wires_fit) (in_place d k inside).0)
-
-pub offset_bounds-cells-k : goal.offset_bounds-cells-k
-offset_bounds-cells-k g c =
-    let lent : c.loop-k.k < length c.args.cells.now = omega (arith, c.loop-k-test.true, ap length c.blocks-block-items.ensures, c.requires.cells_fit) in
-    let l : c.loop-k.k < length c.loop-k.cells = omega (arith, lent, c.loop-k.auto.cells) in
-    search rules
-
-pub offset_bounds-cells-k-in-loop-k : goal.offset_bounds-cells-k-in-loop-k
-offset_bounds-cells-k-in-loop-k g c =
-    let lent : c.loop-k.k < length c.args.cells.now = omega (arith, c.loop-k-test.true, ap length c.blocks-block-items.ensures, c.requires.cells_fit) in
-    search rules
+    (ports_below d c.args.wires.now k (get_or c.blocks-block-items.result.now k blank) c.requires.wires_fit inside (ap (λ bs. get_or bs k blank) c.blocks-block-items.ensures)).0
 
 pub loop-k-preserved : goal.loop-k-preserved
 loop-k-preserved g c =
@@ -41,7 +26,7 @@ loop-k-preserved g c =
     let inside : k < length d.blocks = subst (λ bs. k < length bs) c.blocks-block-items.ensures c.loop-k-test.true in
     let here : k < length cells = omega (arith, inside, c.requires.cells_fit, c.loop-k.auto.cells) in
     let was : c.index-cells-k.result ≡ cell_at from k =
-    get_or_read cells k c.index-cells-k.result here c.index-cells-k.is Empty ∙ ap (λ cs. cell_at cs k) c.loop-k.invariant ∙ next_later m ws d.blocks k from inside in
+    get_or_read cells k c.index-cells-k.result here c.index-cells-k.is None ∙ ap (λ cs. cell_at cs k) c.loop-k.invariant ∙ next_later m ws d.blocks k from inside in
     let moved =
     c.next_of.ensures
     ∙ ap (λ bs. next_cell m ws (get_or bs k blank) c.index-cells-k.result) c.blocks-block-items.ensures
@@ -51,9 +36,3 @@ loop-k-preserved g c =
     ∙ ap (set (next_cells m ws (take k d.blocks) from) k) moved
     ∙ sym (next_more m ws d.blocks k from inside (omega (arith, inside, c.requires.cells_fit)))
     ∙ ap (λ n. next_cells m ws (take n d.blocks) from) one_more
-
-pub returns : goal.returns
-returns g c =
-    let d = drawing c.args.diagram.now in
-    let m = g.K.Kit.meaning c.args.kit.now in
-    c.loop-k.invariant ∙ ap (λ bs. next_cells m c.args.wires.now bs c.args.cells.now) (take_all c.loop-k.k d.blocks (omega (arith, c.loop-k-test.false, ap length c.blocks-block-items.ensures)))

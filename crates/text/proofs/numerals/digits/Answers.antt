@@ -1,23 +1,12 @@
-use Rattle.std.proofs.Common.{◌≡◌, ◌+◌, ◌*◌, min, true, false, ◌&&◌, get_or, drop, sym, ap, ◌∙◌, arith}
-use Rattle.std.specs.Str.Parse.{digits_value, digits_value_after}
+use Rattle.std.proofs.Common.{◌≡◌, ◌+◌, ◌*◌, min, ◌&&◌, get_or, drop, sym, ap, ◌∙◌, arith}
+use Rattle.std.specs.Str.Parse.{digits_value_after}
 use Rattle.std.specs.Char.{digit_value}
 use Rattle.std.specs.Str.{all_ascii_digits}
-use Rattle.std.proofs.lemmas.List.{at_drop_more, at_drop_all}
-use Rattle.std.proofs.lemmas.Bool.{and_right, cond-false}
+use Rattle.std.proofs.lemmas.List.{at_drop_more}
 use Rattle.std.proofs.lemmas.Str.{digit_value_digit}
-use Rattle.std.proofs.lemmas.Bool.Decides.{nat_tests}
-use Rattle.text.specs.Numerals.{beyond, well_formed}
+use Rattle.text.specs.Numerals.{beyond}
 use Rattle.text.proofs.Capped.{capped}
 use Rattle.text.proofs.numerals.digits.Goals as goal
-
--- the digit at hand is the first of what is left
-pub returns-then-not-is_ascii_digit : goal.returns-then-not-is_ascii_digit
-returns-then-not-is_ascii_digit c =
-    let f = c.args.field.now in
-    let i = c.loop-b.b-index in
-    let no_digit = c.if-not-is_ascii_digit.ensures.value in
-    let none : all_ascii_digits f ≡ false = c.loop-b.invariant.1 ∙ at_drop_more all_ascii_digits f i 0 c.loop-b-test.true ∙ ap (λ b. b && all_ascii_digits (drop (i + 1) f)) (sym no_digit) in
-    sym (cond-false (well_formed f) _ _ (and_right _ (all_ascii_digits f) none))
 
 pub loop-b-preserved : goal.loop-b-preserved
 loop-b-preserved c =
@@ -32,10 +21,3 @@ loop-b-preserved c =
       c.loop-b.invariant.1 ∙ at_drop_more all_ascii_digits f i 0 c.loop-b-test.true ∙ ap (λ b. b && all_ascii_digits rest) (sym digit.value),
       c.loop-b.invariant.2 ∙ at_drop_more (λ ds. min (digits_value_after 10 c.loop-b.n ds) beyond) f i 0 c.loop-b-test.true ∙ sym (capped rest m beyond) ∙ ap (λ n. min (digits_value_after 10 n rest) beyond) (sym n_is),
     )
-
-pub returns : goal.returns
-returns c =
-    let f = c.args.field.now in
-    let all : all_ascii_digits f ≡ true = c.loop-b.invariant.1 ∙ at_drop_all all_ascii_digits f c.loop-b.b-index c.loop-b-test.false in
-    let n_is : min (digits_value 10 f) beyond ≡ min c.loop-b.n beyond = c.loop-b.invariant.2 ∙ at_drop_all (λ ds. min (digits_value_after 10 c.loop-b.n ds) beyond) f c.loop-b.b-index c.loop-b-test.false in
-    grind (arith, nat_tests)

@@ -1,4 +1,5 @@
 use Rattle.std.proofs.Common.{is_ok, Ok, Err, sym, refl, ap, ◌∙◌}
+use Rattle.std.proofs.lemmas.Bool.{not-true, not-false}
 use Rattle.machine.specs.declared.answers.Phase.TheVariants.{Resting}
 use Rattle.machine.specs.Machine.{closed_by}
 use Rattle.run.specs.Runs.{state_of, token_of, drawing_of_run}
@@ -25,10 +26,10 @@ returns-in-Err g c =
       stands = done.stands;
     }
 
-pub returns-then-not-is_of : goal.returns-then-not-is_of
-returns-then-not-is_of g c =
+pub returns-then-ne : goal.returns-then-ne
+returns-then-ne g c =
     let r = c.args.self.now in
-    let is = close_other (state_of r) (drawing_of_run r) (g.K.Kit.meaning c.args.kit.now) (token_of c.args.token) c.args.intent tt (sym c.in_default.ensures) (sym c.is_of.ensures ∙ c.if-not-is_of.true) in
+    let is = close_other (state_of r) (drawing_of_run r) (g.K.Kit.meaning c.args.kit.now) (token_of c.args.token) c.args.intent tt (sym c.in_default.ensures) (not-true _ (sym c.ne.ensures ∙ c.if-ne.true)) in
     let done = finish_close c.args.self.now (g.K.Kit.meaning c.args.kit.now) (g.met.K.Kit.monotone c.args.kit.now) (g.met.K.Kit.bounded c.args.kit.now) (token_of c.args.token) c.args.intent is (ap Err c.refusal.ensures) refl in
     record {
       answer = done.answer;
@@ -55,7 +56,7 @@ returns-in-Keep g c =
     let told = sym c.unwrap.ensures ∙ made.answer ∙ ap (λ x. then x (λ _. Ok (kept_answer s.wires))) fits in
     let after = made.after ∙ ap (λ x. where_taken x (kept_cells m d s.wires s.cells) s.cells) fits in
     let is =
-    close_own s d m (token_of c.args.token) c.args.intent tt (sym c.in_default.ensures) (sym c.is_of.ensures ∙ c.if-not-is_of.false)
+    close_own s d m (token_of c.args.token) c.args.intent tt (sym c.in_default.ensures) (not-false _ (sym c.ne.ensures ∙ c.if-ne.false))
     ∙ ap (λ i. closed_by i m d s) c.in-Keep.is
     ∙ closed_keep m d s in
     let done = finish_close c.args.self.now (g.K.Kit.meaning c.args.kit.now) (g.met.K.Kit.monotone c.args.kit.now) (g.met.K.Kit.bounded c.args.kit.now) (token_of c.args.token) c.args.intent is told (λ t. record { name = s.name; count = s.count; phase = Resting; wires = made.wires t; cells = after t }) in
@@ -74,7 +75,7 @@ returns-in-Drop g c =
     let d = drawing_of_run r in
     let m = g.K.Kit.meaning c.args.kit.now in
     let is =
-    close_own s d m (token_of c.args.token) c.args.intent tt (sym c.in_default.ensures) (sym c.is_of.ensures ∙ c.if-not-is_of.false)
+    close_own s d m (token_of c.args.token) c.args.intent tt (sym c.in_default.ensures) (not-false _ (sym c.ne.ensures ∙ c.if-ne.false))
     ∙ ap (λ i. closed_by i m d s) c.in-Drop.is in
     let done = finish_close c.args.self.now (g.K.Kit.meaning c.args.kit.now) (g.met.K.Kit.monotone c.args.kit.now) (g.met.K.Kit.bounded c.args.kit.now) (token_of c.args.token) c.args.intent is refl refl in
     record {

@@ -1,7 +1,6 @@
 use Rattle.std.proofs.Common.{◌≡◌, leb, length, Ok, Err, sym, ap, ◌∙◌, arith}
 use Rattle.std.proofs.lemmas.Result.{err_from_is_err_and}
 use Rattle.std.proofs.lemmas.Bool.{cond-true, cond-false, le-leb, lt-leb}
-use Rattle.std.proofs.lemmas.List.{get_or_read}
 use Rattle.text.specs.declared.fault.Cause.TheVariants.{NumberOutside}
 use Rattle.text.specs.Results.{fault}
 use Rattle.kit.specs.declared.signal.Signal.TheVariants.{Unknown}
@@ -30,24 +29,25 @@ taken g c = read_taken (state_of c.args.self.now) (drawing_of_run c.args.self.no
 fits : (g : Over) (c : In_ok-admit g) → length c.args.self.now.wires.now ≡ (drawing_of_run c.args.self.now).wires
 fits g c = c.args.self.now.wires_fit (not_void c.args.self.now.phase Read tt (sym c.in_ok-admit.ensures))
 
-pub returns-then-wire-wires : goal.returns-then-wire-wires
-returns-then-wire-wires g c =
-    let at_place = (goal.at.returns-then-wire-wires g c).In_ok-admit in
+pub returns-in-None : goal.returns-in-None
+returns-in-None g c =
+    let at_place = (goal.at.returns-in-None g c).In_ok-admit in
     let r = c.args.self.now in
     let d = drawing_of_run r in
     let w = c.args.wire in
     let long = fits g at_place in
-    let by = taken g at_place ∙ cond-true (leb d.wires w) (refused (state_of r) (fault NumberOutside w d.wires)) (accepted (at r.wires.now w) (state_of r)) (le-leb d.wires w (omega (arith, c.if-wire-wires.true))) in
-    let done = finish_read r w by (ap (λ n. Err (fault NumberOutside w n)) long) in
+    let by = taken g at_place ∙ cond-true (leb d.wires w) (refused (state_of r) (fault NumberOutside w d.wires)) (accepted (at r.wires.now w) (state_of r)) (le-leb d.wires w (omega (arith, long, c.in-None.ensures.lookup.3))) in
+    let done = finish_read r w by (ap Err c.new.ensures ∙ ap (λ n. Err (fault NumberOutside w n)) long) in
     record { answer = done.answer; stands = done.stands }
 
-pub returns : goal.returns
-returns g c =
-    let at_place = (goal.at.returns g c).In_ok-admit in
+pub returns-in-Some : goal.returns-in-Some
+returns-in-Some g c =
+    let at_place = (goal.at.returns-in-Some g c).In_ok-admit in
     let r = c.args.self.now in
     let d = drawing_of_run r in
     let w = c.args.wire in
     let long = fits g at_place in
-    let by = taken g at_place ∙ cond-false (leb d.wires w) (refused (state_of r) (fault NumberOutside w d.wires)) (accepted (at r.wires.now w) (state_of r)) (lt-leb d.wires w (omega (arith, c.if-wire-wires.false))) in
-    let done = finish_read r w by (ap Ok (get_or_read r.wires.now w c.index-wires-wire.result c.if-wire-wires.false c.index-wires-wire.is Unknown)) in
+    let found = c.in-Some.ensures.lookup.3 in
+    let by = taken g at_place ∙ cond-false (leb d.wires w) (refused (state_of r) (fault NumberOutside w d.wires)) (accepted (at r.wires.now w) (state_of r)) (lt-leb d.wires w (omega (arith, long, found.0))) in
+    let done = finish_read r w by (ap Ok (found.1 Unknown)) in
     record { answer = done.answer; stands = done.stands }

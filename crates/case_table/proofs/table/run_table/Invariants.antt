@@ -1,0 +1,6 @@
+use Rattle.std.proofs.Common.{map, string_bytes}
+use Rattle.case_table.proofs.Reports.{SoFar}
+use Rattle.case_table.proofs.table.run_table.Given as goal
+
+abbrev pub invariant-loop-line : goal.invariant-loop-line
+invariant-loop-line g l = SoFar g.T.Trying.finds (map (λ x. x.now) l.yielded) (string_bytes l.report.told) l.report.wrong

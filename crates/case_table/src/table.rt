@@ -1,0 +1,36 @@
+// A table has a line for each case: what is tried, a name, what is expected and what it is tried on, parted by tabs.
+ghost use Rattle.std.specs.Prelude.{◌≡◌, ℕ, List, IfOk, OnOk, string_bytes, ⊤};
+ghost use Rattle.case_table.specs.Cases.{column, Tells};
+
+use crate::report::Report;
+use std::alloc::{AllocError, Global};
+
+// What can be tried, by the word that a line begins with. A trait and no closure, which would have to require that it may be
+// called: no public function requires anything.
+pub trait Trying {
+    // Which texts may be found where what the first text says is tried on the second.
+    ghost finds: { List ℕ → List ℕ → List ℕ → Type 0 } = { λ _ _ _. ⊤ };
+
+    fn tried(heap: Global, what: &str, on: &str) -> Result<String, AllocError>
+        ensures { IfOk result (λ found. finds what.now on.now (string_bytes found)) };
+}
+
+// A column of a line; one that it lacks is empty.
+fn column(line: &str, at: usize) -> &str
+    ensures { result.now ≡ column at line.now }
+{
+    line.split('\t').nth(at).unwrap_or("")
+}
+
+// Tries each case of a table, and tells those that went otherwise than their lines say, and how many.
+pub fn run_table<T: Trying>(heap: Global, table: &str) -> Result<String, AllocError>
+    ensures { IfOk result (λ told. Tells T.Trying.finds table.now (string_bytes told)) }
+{
+    let cases = table.lines().count();
+    let mut report = Report::new(heap);
+    for line in table.lines() {
+        let found = T::tried(heap, column(line, 0), column(line, 3))?;
+        report.add(line, column(line, 2), found.as_str())?;
+    }
+    report.all(cases)
+}
