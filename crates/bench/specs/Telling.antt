@@ -11,12 +11,13 @@ use Rattle.bench.specs.Lists.{Shown, drawn, cut_at, first_tick, tick_lines, list
 use Rattle.bench.specs.TickLines.{tick_line}
 
 -- Each tick that is shown has a line, from line k on; it shows the least solution for the cells that the kept ticks before
--- it gave and the inputs of its line, and is kept exactly if no wire of that solution is unknown.
+-- it gave and the inputs of its line, and the rounds that settling took, and is kept exactly if no wire of that solution is
+-- unknown.
 abbrev pub Tells : {V : Type 0} → (ℤ → Option V) → Meaning V → Drawing → List (Cell V) → ℕ → List (List ℕ) → List (Shown V) → Type 0
 Tells valued m d cells k lines [] = Unit {0}
 Tells valued m d cells k [] (x ∷ xs) = ⊥
 Tells {V} valued m d cells k (line ∷ lines) (x ∷ xs) =
-    (gs : List (Option (Given V))) × (cells' : List (Cell V)) × (tick_line valued k d.inputs (fields_of line) ≡ Ok gs) × Solves m d cells gs x.closed x.wires cells' × Tells valued m d cells' (k + 1) lines xs
+    (gs : List (Option (Given V))) × (cells' : List (Cell V)) × (tick_line valued k d.inputs (fields_of line) ≡ Ok gs) × Solves m d cells gs x.closed x.rounds x.wires cells' × Tells valued m d cells' (k + 1) lines xs
 
 -- the whole list, from the first cells of its diagram on
 unfoldable pub TellsLeast : {V : Type 0} → (ℤ → Option V) → Meaning V → List ℕ → Type 0

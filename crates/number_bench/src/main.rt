@@ -4,10 +4,12 @@
 
 use bench::input::play_input;
 use kits::bench_kits::number_bench_kit;
+use std::io::Write;
 
 fn main(rt: HostRuntime) -> anyhow::Result<()> {
     let heap = rt.alloc();
     let out = play_input::<i32, _, _, _>(heap, &number_bench_kit(), &mut rt.stdin())?;
-    print!(rt; "{out}")?;
+    // whole: a printing macro writes it in small pieces
+    rt.stdout().write_all(out.as_str().as_bytes())?;
     Ok(())
 }
