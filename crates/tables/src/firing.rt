@@ -79,18 +79,18 @@ fn all_known<V: Copy>(wires: &[Signal<V>], ports: OutPorts) -> bool
 fn fire_block<V: Copy, K: Kit<V>>(
     kit: &K,
     block: &Block,
-    cell: Cell<V>,
+    cell: &Cell<V>,
     wires: &mut [Signal<V>],
 ) -> usize
     requires { (Below (length wires.old) (ins block.now.inputs)) × (Below (length wires.old) (outs block.now.outputs)) }
-    ensures after { wires.new ≡ after_fire (K.Kit.meaning kit.now) wires.old block.now cell }
+    ensures after { wires.new ≡ after_fire (K.Kit.meaning kit.now) wires.old block.now cell.now }
     ensures count { result + known wires.old ≡ known wires.new }
 {
     // a known wire keeps its signal, so that the kit need not be asked for it again
     if all_known(wires, block.outputs) {
         return 0;
     }
-    let view = view_of(wires, block, cell);
+    let view = view_of(wires, block, *cell);
     let first = kit.fire(&view, 0);
     match block.outputs {
         OutPorts::One(p) => put(wires, p, first),
@@ -110,8 +110,7 @@ impl<V: Copy> Tables<'_, '_, '_, V> {
         ensures loans { SameLoans self.old self.new }
     {
         let block = &self.diagram.blocks()[k];
-        let cell = self.cells[k];
-        fire_block(kit, block, cell, self.wires)
+        fire_block(kit, block, &self.cells[k], self.wires)
     }
 
     // A round: every block once, in table order; how many wires became known.
@@ -123,7 +122,7 @@ impl<V: Copy> Tables<'_, '_, '_, V> {
         let wires = &mut *self.wires;
         let mut known = 0;
         for (block, cell) in self.diagram.blocks().iter().zip(self.cells) {
-            known += fire_block(kit, block, *cell, wires);
+            known += fire_block(kit, block, cell, wires);
         }
         known
     }

@@ -8,4 +8,4 @@ returns-then-all_known g c =
     let ws = c.args.wires.now in
     let b = c.args.block.now in
     let m = g.K.Kit.meaning c.args.kit.now in
-    record { after = sym (all_kept ws b.outputs (answer m ws b c.args.cell) (sym c.all_known.ensures ∙ c.if-all_known.true)); count = omega arith }
+    record { after = sym (all_kept ws b.outputs (answer m ws b c.args.cell.now) (sym c.all_known.ensures ∙ c.if-all_known.true)); count = omega arith }
