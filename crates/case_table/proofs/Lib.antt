@@ -1,1 +1,2 @@
+pub mod LinesRead
 pub mod Reports

@@ -1,6 +1,7 @@
 -- A table of cases, and what is told of those that were tried.
-use Rattle.std.specs.Prelude.{◌≡◌, ℕ, Bool, not, cond, List, [], ◌++◌, ◌==◌, map, length, All, unwrap_or, slice_get, codes, decimal}
+use Rattle.std.specs.Prelude.{◌≡◌, ℕ, Bool, not, cond, List, [], ◌++◌, ◌==◌, ⊤, Option, None, Some, map, length, All, unwrap_or, slice_get, codes, decimal}
 use Rattle.std.specs.List.{slice_split, flat_map, count_by}
+use Rattle.std.specs.Io.KnownBytes.{Appends}
 use Rattle.std.specs.Str.{bytes_eq}
 use Rattle.std.specs.Str.Lines.{lines}
 
@@ -34,3 +35,8 @@ pub record Tells (finds : List ℕ → List ℕ → List ℕ → Type 0) (table 
   pub in_order : map (λ t. t.0) tries ≡ lines table
   pub found : All (λ t. finds (column 0 t.0) (column 3 t.0) t.1) tries
   pub reported : told ≡ report tries
+
+-- where the table that a reader has left is known, this is what a writer's known bytes grow by
+abbrev pub TellsInto : (List ℕ → List ℕ → List ℕ → Type 0) → Option (List ℕ) → Option (List ℕ) → Option (List ℕ) → Type 0
+TellsInto finds None old new = ⊤
+TellsInto finds (Some table) old new = (told : List ℕ) × Tells finds table told × Appends old new told

@@ -1,9 +1,10 @@
 // A table has a line for each case: what is tried, a name, what is expected and what it is tried on, parted by tabs.
 ghost use Rattle.std.specs.Prelude.{◌≡◌, ℕ, List, IfOk, OnOk, string_bytes, ⊤};
-ghost use Rattle.case_table.specs.Cases.{column, Tells};
+ghost use Rattle.case_table.specs.Cases.{column, TellsInto};
 
 use crate::report::Report;
 use std::alloc::{AllocError, Global};
+use std::io::{BufRead, Write};
 
 // What can be tried, by the word that a line begins with. A trait and no closure, which would have to require that it may be
 // called: no public function requires anything.
@@ -22,15 +23,22 @@ fn column(line: &str, at: usize) -> &str
     line.split('\t').nth(at).unwrap_or("")
 }
 
-// Tries each case of a table, and tells those that went otherwise than their lines say, and how many.
-pub fn run_table<T: Trying>(heap: Global, table: &str) -> Result<String, AllocError>
-    ensures { IfOk result (λ told. Tells T.Trying.finds table.now (string_bytes told)) }
+// Tries each case of a table as its line is read, and tells those that went otherwise than their lines say, each before the
+// next is tried, and at the end how many. What was told stays where a later line cannot be read or tried.
+pub fn run_table<T: Trying, B: BufRead + Drop, W: Write>(
+    heap: Global,
+    from: B,
+    to: &mut W,
+) -> anyhow::Result<()>
+    ensures { OnOk result (TellsInto T.Trying.finds (B.Read.remaining from) (W.contents to.old) (W.contents to.new)) }
 {
-    let cases = table.lines().count();
-    let mut report = Report::new(heap);
-    for line in table.lines() {
+    let mut report = Report::new();
+    for line in from.lines(heap) {
+        let line = line?;
+        let line = line.as_str();
         let found = T::tried(heap, column(line, 0), column(line, 3))?;
-        report.add(line, column(line, 2), found.as_str())?;
+        report.add(to, line, column(line, 2), found.as_str())?;
     }
-    report.all(cases)
+    report.end(to)?;
+    Ok(())
 }

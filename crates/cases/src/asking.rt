@@ -7,7 +7,7 @@ use kit::question::{BlockView, Kit, Ports};
 use kit::signal::{Cell, Inputs, Signal};
 use kits::bench_kits::{number_bench_kit, switch_bench_kit};
 use kits::number::NumberKit;
-use marks::mark::{Mark, input};
+use marks::mark::Mark;
 use marks::value::Value;
 use std::alloc::{AllocError, Global};
 use std::fmt;
@@ -30,9 +30,13 @@ impl<V: Value> fmt::Display for Reply<V> {
     }
 }
 
+// A value as a cell's: `marks::mark::input` would refuse `+2` and `02`.
 fn read_signal<V: Value>(word: &str) -> Option<Signal<V>> {
-    let given = input(word.as_bytes()).ok()?;
-    Some(given.map_or(Signal::Unknown, Signal::from))
+    match word {
+        "?" => Some(Signal::Unknown),
+        "." => Some(Signal::Absent),
+        _ => Some(Signal::Present(V::of(word.parse().ok()?)?)),
+    }
 }
 
 fn read_cell<V: Value>(word: &str) -> Option<Cell<V>> {

@@ -5,9 +5,13 @@ ghost use Rattle.std.specs.Str.Iter.{bytes_rest};
 use std::alloc::{AllocError, Global};
 use std::str::Bytes;
 
+// A digit, or a small letter to `f`; any other byte, a capital letter too, is 0.
 fn hex_value(b: u8) -> u32
     ensures { result < 16 }
 {
+    if b.is_ascii_uppercase() {
+        return 0;
+    }
     char::from(b).to_digit(16).unwrap_or(0)
 }
 

@@ -13,7 +13,7 @@ use case_table::table::{Trying, run_table};
 use escaped::unescaped;
 use reading::outcome;
 use std::alloc::{AllocError, Global};
-use std::io;
+use std::io::{BufReader, LineWriter};
 
 // Reading diagrams, and asking kits. A word is matched: a table of functions would be no plainer.
 struct Libraries;
@@ -33,8 +33,7 @@ impl Trying for Libraries {
 
 fn main(rt: HostRuntime) -> anyhow::Result<()> {
     let heap = rt.alloc();
-    let table = io::read_to_string(heap, rt.stdin())?;
-    let told = run_table::<Libraries>(heap, table.as_str())?;
-    print!(rt; "{told}")?;
-    Ok(())
+    let table = BufReader::new(heap, rt.stdin())?;
+    let mut told = LineWriter::new(heap, rt.stdout())?;
+    run_table::<Libraries, _, _>(heap, table, &mut told)
 }

@@ -1,12 +1,14 @@
 // A program's input, up to a limit.
 ghost use Rattle.std.specs.Prelude.{◌≡◌, ◌+◌, ◌<◌, ◌≤◌, length, take, IfOk, vec_len};
 ghost use Rattle.std.specs.Io.KnownBytes.{Consumes, IsAtEnd};
+ghost use Rattle.profile.specs.Failures.{AsReading};
 ghost use Rattle.profile.specs.Opening.{most_bytes, limited};
 
-use std::alloc::Allocator;
+use std::alloc::{AllocError, Allocator};
 use std::io;
 use std::io::Read;
 use text::fault::{Cause, Fault};
+use thiserror::Error;
 
 // The longest input that a program takes.
 pub const MOST_BYTES: usize = 65_536;
@@ -31,8 +33,28 @@ pub fn read_into<R: Read>(from: &mut R, buffer: &mut [u8]) -> io::Result<usize>
     Ok(len)
 }
 
+// Why an input was not read, or not gone through. Memory that fails keeps an error of its own, and so its own words.
+#[derive(Debug, Drop, Error)]
+pub enum InputError {
+    #[error("{0}")]
+    Reading(#[from] io::Error),
+    #[error("{0}")]
+    Memory(#[from(alloc)] AllocError),
+}
+
+impl From<InputError> for io::Error {
+    ghost from_gives = { AsReading };
+
+    fn from(error: InputError) -> io::Error {
+        match error {
+            InputError::Reading(error) => error,
+            InputError::Memory(error) => io::Error::from(error),
+        }
+    }
+}
+
 // The bytes of an input, up to one more than the limit, which tells an input that is too long.
-pub fn read_input<A: Allocator, R: Read>(heap: A, from: &mut R) -> io::Result<Vec<u8, A>>
+pub fn read_input<A: Allocator, R: Read>(heap: A, from: &mut R) -> Result<Vec<u8, A>, InputError>
     ensures within { IfOk result (λ input. vec_len input ≤ most_bytes + 1) }
     ensures bytes { IfOk result (λ input. Consumes (R.Read.remaining from.old) (R.Read.remaining from.new) input.items) }
     ensures all { IfOk result (λ input. vec_len input < most_bytes + 1 → IsAtEnd (R.Read.remaining from.new)) }

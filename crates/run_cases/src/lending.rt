@@ -27,9 +27,9 @@ impl<V: Value> Lent<V> {
         let text = words.next().unwrap_or("").replace(heap, "\\n", "\n")?;
         let mut diagram = Diagram::empty();
         let _ = diagram.read(text.as_str().as_bytes());
-        let wires = vec![in heap; Signal::Absent; read_number(words.next()).unwrap_or(0)]?;
-        let cells = vec![in heap; V::of(1); read_number(words.next()).unwrap_or(0)]?;
-        let name = read_number(words.next()).unwrap_or(0);
+        let wires = vec![in heap; Signal::Absent; read_number(words.next())]?;
+        let cells = vec![in heap; V::of(1); read_number(words.next())]?;
+        let name = read_number(words.next());
         Ok(Lent {
             diagram,
             name,

@@ -15,7 +15,7 @@ use case_table::table::{Trying, run_table};
 use listing::listed;
 use staging::{Offer, Play, staged};
 use std::alloc::{AllocError, Global};
-use std::io;
+use std::io::{BufReader, LineWriter};
 
 // Taking runs through scripts, and playing lists. A word is matched: a table of functions would be no plainer.
 struct Runs;
@@ -33,8 +33,7 @@ impl Trying for Runs {
 
 fn main(rt: HostRuntime) -> anyhow::Result<()> {
     let heap = rt.alloc();
-    let table = io::read_to_string(heap, rt.stdin())?;
-    let told = run_table::<Runs>(heap, table.as_str())?;
-    print!(rt; "{told}")?;
-    Ok(())
+    let table = BufReader::new(heap, rt.stdin())?;
+    let mut told = LineWriter::new(heap, rt.stdout())?;
+    run_table::<Runs, _, _>(heap, table, &mut told)
 }

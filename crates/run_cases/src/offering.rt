@@ -14,7 +14,6 @@ use marks::value::Value;
 use run::run::Run;
 use run::token::{CloseRefused, TickToken};
 use std::alloc::{AllocError, Global};
-use std::str::FromStr;
 use text::fault::Fault;
 
 // The ticks that pass in each run before, whether a tick is opened in the second too, and what each close is asked.
@@ -26,17 +25,15 @@ struct Manner {
     intent: Intent,
 }
 
-impl FromStr for Manner {
-    type Err = IllFormed;
-
-    fn from_str(text: &str) -> Result<Manner, IllFormed> {
+impl From<&str> for Manner {
+    fn from(text: &str) -> Manner {
         let mut words = text.split(' ');
-        Ok(Manner {
-            first: read_number(words.next())?,
-            second: read_number(words.next())?,
+        Manner {
+            first: read_number(words.next()),
+            second: read_number(words.next()),
             both_open: words.next() == Some("open"),
-            intent: read_intent(words.next().unwrap_or(""))?,
-        })
+            intent: read_intent(words.next().unwrap_or("")),
+        }
     }
 }
 
@@ -135,10 +132,6 @@ pub(crate) fn offered<V: Value, K: Kit<V>>(
     let [one, other, manner] = script else {
         return IllFormed.to_string(heap);
     };
-    let manner = match manner.parse::<Manner>() {
-        Ok(manner) => manner,
-        Err(ill_formed) => return ill_formed.to_string(heap),
-    };
     let mut one = Lent::read(heap, one)?;
     let mut other = Lent::read(heap, other)?;
     let mut told = Told::new(heap);
@@ -146,7 +139,7 @@ pub(crate) fn offered<V: Value, K: Kit<V>>(
     told.tell(other.check(kit));
     let mut meeting = Meeting {
         kit,
-        manner,
+        manner: Manner::from(*manner),
         first: one.run(kit),
         second: other.run(kit),
         told,

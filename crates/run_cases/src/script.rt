@@ -1,6 +1,6 @@
-// The steps of a script.
+// The steps of a script. A number that is missing or ill-formed is 0, and a value absent: then the case goes otherwise than
+// expected.
 use machine::answers::{Given, Intent};
-use marks::mark::input;
 use marks::value::Value;
 use std::fmt;
 use std::str::FromStr;
@@ -33,26 +33,27 @@ impl fmt::Display for IllFormed {
     }
 }
 
-// A number has to be there.
-pub(crate) fn read_number<N: FromStr>(word: Option<&str>) -> Result<N, IllFormed>
+// A number; one that is missing or ill-formed is 0.
+pub(crate) fn read_number<N: FromStr + Default>(word: Option<&str>) -> N
 where
     N::Err: Drop,
 {
-    word.and_then(|word| word.parse().ok()).ok_or(IllFormed)
+    word.and_then(|word| word.parse().ok()).unwrap_or_default()
 }
 
-pub(crate) fn read_intent(word: &str) -> Result<Intent, IllFormed> {
+// To keep; any other word is to drop.
+pub(crate) fn read_intent(word: &str) -> Intent {
     match word {
-        "keep" => Ok(Intent::Keep),
-        "drop" => Ok(Intent::Drop),
-        _ => Err(IllFormed),
+        "keep" => Intent::Keep,
+        _ => Intent::Drop,
     }
 }
 
-fn read_given<V: Value>(word: &str) -> Result<Given<V>, IllFormed> {
-    match input(word.as_bytes()) {
-        Ok(Some(given)) => Ok(given),
-        _ => Err(IllFormed),
+// A value; any other word, as `.`, is absent.
+fn read_given<V: Value>(word: &str) -> Given<V> {
+    match word.parse() {
+        Ok(number) => V::of(number).map_or(Given::Absent, Given::Present),
+        Err(_) => Given::Absent,
     }
 }
 
@@ -62,18 +63,19 @@ impl<V: Value> FromStr for Step<V> {
     fn from_str(text: &str) -> Result<Step<V>, IllFormed> {
         let mut words = text.split(' ');
         let verb = words.next().unwrap_or("");
+        let number = read_number(words.next());
         match verb {
             "begin" => Ok(Step::Begin),
             "supply" => {
-                let wire = read_number(words.next())?;
-                let given = read_given(words.next().unwrap_or(""))?;
-                Ok(Step::Call(Call::Supply(wire, given)))
+                let given = read_given(words.next().unwrap_or(""));
+                Ok(Step::Call(Call::Supply(number, given)))
             }
-            "fire" => Ok(Step::Call(Call::Fire(read_number(words.next())?))),
+            "fire" => Ok(Step::Call(Call::Fire(number))),
             "settle" => Ok(Step::Call(Call::Settle)),
-            "read" => Ok(Step::Call(Call::Read(read_number(words.next())?))),
-            "ticks" => Ok(Step::Pass(read_number(words.next())?)),
-            _ => Ok(Step::Close(read_intent(verb)?)),
+            "read" => Ok(Step::Call(Call::Read(number))),
+            "ticks" => Ok(Step::Pass(number)),
+            "keep" | "drop" => Ok(Step::Close(read_intent(verb))),
+            _ => Err(IllFormed),
         }
     }
 }

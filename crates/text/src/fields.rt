@@ -10,11 +10,13 @@ pub struct Fields<'a> {
     line: &'a [u8],
     // the line's number in the text, from 1
     number: usize,
-    // how many fields are taken
+    // how many fields the line has, and how many are taken
+    count: usize,
     taken: usize,
     // what follows them: nothing past the last
     rest: Option<&'a [u8]>,
     ghost short: { length line.now < 2 ^ 63 },
+    ghost counted: { count ≡ length (fields_of line.now) },
     ghost within: { taken ≤ length (fields_of line.now) },
     ghost here: { fields_left rest ≡ drop taken (fields_of line.now) },
 }

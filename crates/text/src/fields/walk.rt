@@ -17,16 +17,16 @@ impl<'a> Fields<'a> {
         Fields {
             line,
             number,
+            count: count_pieces(line, b','),
             taken: 0,
             rest: Some(line),
         }
     }
 
-    // How many fields the line has: it is walked once for each call.
     pub fn count(&self) -> usize
         ensures { result ≡ length (fields_in self.now) }
     {
-        count_pieces(self.line, b',')
+        self.count
     }
 
     // The line has to have so many fields.

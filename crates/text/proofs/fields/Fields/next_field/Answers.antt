@@ -27,6 +27,7 @@ invariant_of-self c =
     let left = ap fields_left (sym c.in-Some.is) ∙ f.here in
     record {
       short = f.short;
+      counted = f.counted;
       within = omega (arith, one_left (goal.at.invariant_of-self c).In-Some);
       here = ap (drop 1) (sym c.first_piece.ensures.value ∙ left) ∙ drop-drop 1 f.taken (fields_in f);
     }
