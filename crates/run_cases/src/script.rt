@@ -1,5 +1,4 @@
-// The steps of a script. A number that is missing or ill-formed is 0, and a value absent: then the case goes otherwise than
-// expected.
+// The steps of a script. A number that is missing or ill-formed is 0, and a value that is none is absent.
 use machine::answers::{Given, Intent};
 use marks::value::Value;
 use std::fmt;
