@@ -1,5 +1,5 @@
 -- What is told while a table is tried.
-use Rattle.std.proofs.Common.{◌≡◌, ℕ, ◌+◌, ◌<◌, cond, List, [], ◌∷◌, ◌++◌, length, map, All, Option, Some, None, unwrap_or, IfSome, sym, refl, ap, subst, ◌∙◌, arith, append_assoc, append-nil}
+use Rattle.std.proofs.Common.{◌≡◌, ℕ, ◌+◌, ◌<◌, ◌≤◌, cond, List, [], ◌∷◌, ◌++◌, length, map, All, Option, Some, None, unwrap_or, IfSome, sym, refl, ap, subst, ◌∙◌, arith, append_assoc, append-nil}
 use Rattle.std.specs.Prelude.{⊤}
 use Rattle.std.specs.List.{flat_map, count_by}
 use Rattle.std.specs.Option.{option_map}
@@ -8,7 +8,7 @@ use Rattle.std.specs.Io.BufRead.{first_line, drop_through, DropsThrough}
 use Rattle.std.specs.Str.Lines.{lines}
 use Rattle.std.proofs.lemmas.List.{flat_map_more, map-append, length-map, length-append}
 use Rattle.std.proofs.lemmas.List.Elements.{All-push, All-nil}
-use Rattle.std.proofs.lemmas.List.Sums.{fold-append}
+use Rattle.std.proofs.lemmas.List.Sums.{fold-append, count_by-le-length}
 use Rattle.case_table.specs.Cases.{Tried, column, is_wrong, went_wrong, told_of, ends, Tells, TellsInto}
 use Rattle.case_table.proofs.LinesRead.{lines_first}
 
@@ -29,7 +29,11 @@ module _ {finds : List ℕ → List ℕ → List ℕ → Type 0} {ls : List (Lis
   as_many : length s.tries ≡ length ls
   as_many = sym (length-map s.tries (λ t. t.0)) ∙ ap length s.in_order
 
-  one_tried : (line found : List ℕ) → finds (column 0 line) (column 3 line) found → SoFar finds (ls ++ line ∷ []) (told ++ told_of line (column 2 line) found) (wrong + cond (is_wrong (column 2 line) found) 1 0)
+  -- no more are wrong than were tried
+  pub wrong_within : wrong ≤ length ls
+  wrong_within = omega (arith, s.counts, as_many, count_by-le-length went_wrong s.tries)
+
+  pub one_tried : (line found : List ℕ) → finds (column 0 line) (column 3 line) found → SoFar finds (ls ++ line ∷ []) (told ++ told_of line (column 2 line) found) (wrong + cond (is_wrong (column 2 line) found) 1 0)
   one_tried line found f = record {
     tries = s.tries ++ (line, found) ∷ [];
     in_order = map-append (λ t. t.0) s.tries ((line, found) ∷ []) ∙ ap (λ xs. xs ++ line ∷ []) s.in_order;
@@ -38,12 +42,12 @@ module _ {finds : List ℕ → List ℕ → List ℕ → Type 0} {ls : List (Lis
     counts = ap (λ n. n + cond (is_wrong (column 2 line) found) 1 0) s.counts ∙ sym (fold-append (λ n t. n + cond (went_wrong t) 1 0) 0 s.tries ((line, found) ∷ []));
   }
 
-  all_tried : (table : List ℕ) (cases : ℕ) → lines table ≡ ls → cases ≡ length ls → Tells finds table (told ++ ends cases wrong)
+  pub all_tried : (table : List ℕ) (cases : ℕ) → ls ≡ lines table → cases ≡ length (lines table) → Tells finds table (told ++ ends cases wrong)
   all_tried table cases all so_many = record {
     tries = s.tries;
-    in_order = s.in_order ∙ sym all;
+    in_order = s.in_order ∙ all;
     found = s.found;
-    reported = ap (λ bs. bs ++ ends cases wrong) s.tells ∙ ap (λ bs. flat_map (λ t. told_of t.0 (column 2 t.0) t.1) s.tries ++ bs) (ap (λ n. ends n wrong) (so_many ∙ sym as_many) ∙ ap (ends (length s.tries)) s.counts);
+    reported = ap (λ bs. bs ++ ends cases wrong) s.tells ∙ ap (λ bs. flat_map (λ t. told_of t.0 (column 2 t.0) t.1) s.tries ++ bs) (ap (λ n. ends n wrong) (so_many ∙ sym (as_many ∙ ap length all)) ∙ ap (ends (length s.tries)) s.counts);
   }
 
 appends_more : (a b c : Option (List ℕ)) (xs ys : List ℕ) → Appends a b xs → Appends b c ys → Appends a c (xs ++ ys)
@@ -114,4 +118,4 @@ module _ (finds : List ℕ → List ℕ → List ℕ → Type 0) where
   streams_all (Some table) left old now now' cases wrong s end more =
       let nothing : s.rest ≡ [] = subst IsAtEnd s.is_left end in
       let all_read : lines table ≡ s.before = s.parts ∙ ap (λ bs. s.before ++ lines bs) nothing ∙ append-nil s.before in
-      (s.told ++ ends cases wrong, all_tried s.so_far table cases all_read s.counted, appends_more old now now' s.told (ends cases wrong) s.appends more)
+      (s.told ++ ends cases wrong, all_tried s.so_far table cases (sym all_read) (s.counted ∙ ap length (sym all_read)), appends_more old now now' s.told (ends cases wrong) s.appends more)

@@ -4,3 +4,4 @@
 pub mod kept;
 mod report;
 pub mod table;
+mod told;

@@ -1,8 +1,9 @@
 // A table has a line for each case: what is tried, a name, what is expected and what it is tried on, parted by tabs.
 ghost use Rattle.std.specs.Prelude.{◌≡◌, ℕ, List, IfOk, OnOk, string_bytes, ⊤};
-ghost use Rattle.case_table.specs.Cases.{column, TellsInto};
+ghost use Rattle.case_table.specs.Cases.{column, Tells, TellsInto};
 
 use crate::report::Report;
+use crate::told::Told;
 use std::alloc::{AllocError, Global};
 use std::io::{BufRead, Write};
 
@@ -23,9 +24,23 @@ fn column(line: &str, at: usize) -> &str
     line.split('\t').nth(at).unwrap_or("")
 }
 
+// Tries each case of a table that is in memory, and gives what is told: those that went otherwise than their lines say, and how
+// many. It fails only where memory does, or what is tried.
+pub fn run_table<T: Trying>(heap: Global, table: &str) -> Result<String, AllocError>
+    ensures { IfOk result (λ told. Tells T.Trying.finds table.now (string_bytes told)) }
+{
+    let cases = table.lines().count();
+    let mut told = Told::new(heap);
+    for case in table.lines() {
+        let found = T::tried(heap, column(case, 0), column(case, 3))?;
+        told.add(case, column(case, 2), found.as_str())?;
+    }
+    told.all(cases)
+}
+
 // Tries each case of a table as its line is read, and tells those that went otherwise than their lines say, each before the
 // next is tried, and at the end how many. What was told stays where a later line cannot be read or tried.
-pub fn run_table<T: Trying, B: BufRead + Drop, W: Write>(
+pub fn run_table_into<T: Trying, B: BufRead + Drop, W: Write>(
     heap: Global,
     from: B,
     to: &mut W,

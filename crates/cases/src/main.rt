@@ -9,7 +9,7 @@ mod reading;
 mod rival;
 
 use asking::answer;
-use case_table::table::{Trying, run_table};
+use case_table::table::{Trying, run_table_into};
 use escaped::unescaped;
 use reading::outcome;
 use std::alloc::{AllocError, Global};
@@ -35,5 +35,5 @@ fn main(rt: HostRuntime) -> anyhow::Result<()> {
     let heap = rt.alloc();
     let table = BufReader::new(heap, rt.stdin())?;
     let mut told = LineWriter::new(heap, rt.stdout())?;
-    run_table::<Libraries, _, _>(heap, table, &mut told)
+    run_table_into::<Libraries, _, _>(heap, table, &mut told)
 }

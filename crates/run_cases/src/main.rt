@@ -11,7 +11,7 @@ mod script;
 mod staging;
 mod telling;
 
-use case_table::table::{Trying, run_table};
+use case_table::table::{Trying, run_table_into};
 use listing::listed;
 use staging::{Offer, Play, staged};
 use std::alloc::{AllocError, Global};
@@ -35,5 +35,5 @@ fn main(rt: HostRuntime) -> anyhow::Result<()> {
     let heap = rt.alloc();
     let table = BufReader::new(heap, rt.stdin())?;
     let mut told = LineWriter::new(heap, rt.stdout())?;
-    run_table::<Runs, _, _>(heap, table, &mut told)
+    run_table_into::<Runs, _, _>(heap, table, &mut told)
 }
