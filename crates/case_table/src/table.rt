@@ -25,7 +25,7 @@ fn column(line: &str, at: usize) -> &str
 }
 
 // Tries each case of a table that is in memory, and gives what is told: those that went otherwise than their lines say, and how
-// many. It fails only where memory does, or what is tried.
+// many. It fails only where memory does.
 pub fn run_table<T: Trying>(heap: Global, table: &str) -> Result<String, AllocError>
     ensures { IfOk result (λ told. Tells T.Trying.finds table.now (string_bytes told)) }
 {
